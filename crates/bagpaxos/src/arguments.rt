@@ -5,6 +5,7 @@ use audit_command::{AuditTask, audit_command, audit_task};
 use catch_up::{CatchUpTask, catch_up_command, catch_up_task};
 use clap::error::ErrorKind;
 use clap::{ArgMatches, Command, Error};
+use deposit_list::{DepositsTask, deposits_task};
 use folder_checks::{CheckTask, check_command, check_task};
 use ledger_commands::{
     JournalTask, LedgerTask, journal_command, journal_task, ledger_command, ledger_task,
@@ -41,6 +42,8 @@ pub enum Task<'a> {
     Site(SiteTask<'a>),
     /// Ask a site that serves.
     Send(SendTask<'a>),
+    /// Send the deposits of a file to a site that serves.
+    Deposits(DepositsTask<'a>),
     /// Print what a cell says.
     Journal(JournalTask<'a>),
     /// Say what cells prove together.
@@ -122,12 +125,19 @@ fn other_task_in<'a>(matches: &ArgMatches<'a>) -> Option<Task<'a>> {
         };
     }
     if let Some(send) = matches.subcommand_matches("send") {
-        return match send_task(send) {
-            Some(task) => Some(Task::Send(task)),
-            None => None,
-        };
+        return send_task_in(send);
     }
     cell_task_in(matches)
+}
+
+fn send_task_in<'a>(send: &ArgMatches<'a>) -> Option<Task<'a>> {
+    if let Some(task) = deposits_task(send) {
+        return Some(Task::Deposits(task));
+    }
+    match send_task(send) {
+        Some(task) => Some(Task::Send(task)),
+        None => None,
+    }
 }
 
 fn cell_task_in<'a>(matches: &ArgMatches<'a>) -> Option<Task<'a>> {

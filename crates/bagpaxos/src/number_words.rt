@@ -43,7 +43,7 @@ pub(crate) static NUMBERS: [NumberWords; 9] = [
         words: "milliseconds are a number from 1 to 86400000",
     },
     NumberWords {
-        after: "' for '<V>': ",
+        after: "' for '[V]': ",
         words: "a version is a number from 1 to 4294967295",
     },
 ];

@@ -56,10 +56,10 @@ static USAGES: [Usage; 9] = [
     },
     Usage {
         command: "members",
-        forms: "bagpaxos members [--json] [--listed] <FILE>
+        forms: "bagpaxos members [--json] [--words] [--listed] <FILE>
        bagpaxos members --new <PLACE>...
-       bagpaxos members [--json] --key <FILE>
-       bagpaxos members [--json] --new-key <FILE>",
+       bagpaxos members [--json] [--words] --key <FILE>
+       bagpaxos members [--json] [--words] --new-key <FILE>",
         missing: "  <FILE>",
         choices: "  <FILE>, --new <PLACE>..., --key <FILE> or --new-key <FILE>",
     },
@@ -72,7 +72,9 @@ static USAGES: [Usage; 9] = [
     Usage {
         command: "send",
         forms: "bagpaxos send [OPTIONS] --members <FILE> --to <N> --wait <MS>
-                     <OBJ> <V> [PATH]",
+                     <OBJ> <V> [PATH]
+       bagpaxos send [OPTIONS] --members <FILE> --to <N> --wait <MS>
+                     --deposits <FILE>",
         missing: NONE,
         choices: NONE,
     },

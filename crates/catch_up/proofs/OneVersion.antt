@@ -33,9 +33,9 @@ module _ (asked : Target) (v : KnownBag) (a b : Option (List Move)) where
       subst (λ (f : AskFault). StopsIn asked (v ∷ []) a b o n f) (sym is) stops
 
   -- memory ran out before there was an answer
-  pub no_answer : (o : Option (List ℕ)) (result : Result Answer AllocError)
-      → IsAskedFor asked v.slot a b result → StopsIn asked (v ∷ []) a b o o Memory
-  no_answer o result (moves, grows, asks, is) =
+  pub no_answer : (o : Option (List ℕ)) (fault : AllocError)
+      → IsAskedFor asked v.slot a b (Err fault) → StopsIn asked (v ∷ []) a b o o Memory
+  no_answer o fault (moves, grows, asks) =
       ([], [], moves, grows, refl, (v.slot, asks), no_part o [])
 
   -- there was one

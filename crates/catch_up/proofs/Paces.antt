@@ -8,7 +8,8 @@ use Rattle.std.specs.List.{All}
 use Rattle.known_bags.specs.declared.known_bag.KnownBag.{KnownBag}
 use Rattle.catch_up.specs.Rounds.{Answer, open_of, left_of, left_after}
 use Rattle.catch_up.specs.Times.{Beat, Read, Paused, Beats, is_over, pause_after, ArePauses}
-use Rattle.catch_up.specs.Times.{LeaveSome, ReadsOver, most_rounds, AreLast, ArePaced}
+use Rattle.catch_up.specs.Times.{LeaveSome, ReadsOver, WaitsForRound, most_rounds, AreLast}
+use Rattle.catch_up.specs.Times.{ArePaced}
 use Rattle.catch_up.specs.Times.{AreSoManyRounds, AreAllRounds}
 use Rattle.catch_up.specs.inner.Progress.{IsNext}
 
@@ -16,7 +17,7 @@ pub Beats-none : (a : Option (List Beat)) → Beats a a []
 Beats-none None = tt
 Beats-none (Some x) = ap (λ (l : List Beat). Some l) (sym (append-nil x))
 
-Beats-trans : (a b c : Option (List Beat)) (m n : List Beat) → Beats a b m → Beats b c n
+pub Beats-trans : (a b c : Option (List Beat)) (m n : List Beat) → Beats a b m → Beats b c n
     → Beats a c (m ++ n)
 Beats-trans None b c m n p q = tt
 Beats-trans (Some x) b c m n p q =
@@ -194,48 +195,46 @@ module _ (s : ℕ) (vs : List KnownBag) (rounds : List (List Answer)) (t : Optio
 
 -- ---- whether there is another round
 
-module _ (s : ℕ) (vs : List KnownBag) (rounds : ℕ) (some : rounds ≢ 0) where
+module _ (s pauses : ℕ) (a b : Option (List Beat)) (over : Bool)
+    (read : (time : Option ℕ) × Beats a b (Read time ∷ []) × (over ≡ is_over s time)) where
+  -- the time is over
+  pub is_late : over ≡ true → WaitsForRound s pauses a b false
+  is_late late = go read
+    where
+      go : (time : Option ℕ) × Beats a b (Read time ∷ []) × (over ≡ is_over s time)
+          → WaitsForRound s pauses a b false
+      go (time, beats, same) = (Read time ∷ [], beats, (time, refl, sym same ∙ late))
+
+  -- there is time, and it is waited for
+  pub goes_on : over ≡ false → (c : Option (List Beat)) (millis : ℕ) → millis ≡ pause_after pauses
+      → Beats b c (Paused millis ∷ []) → WaitsForRound s pauses a c true
+  goes_on early c millis long paused = go read
+    where
+      go : (time : Option ℕ) × Beats a b (Read time ∷ []) × (over ≡ is_over s time)
+          → WaitsForRound s pauses a c true
+      go (None, beats, same) = absurd (cc (sym same ∙ early))
+      go (Some passed, beats, same) = (
+        passed,
+        Beats-trans a b c (Read (Some passed) ∷ []) (Paused (pause_after pauses) ∷ []) beats
+            (subst (λ (k : ℕ). Beats b c (Paused k ∷ [])) long paused),
+        sym same ∙ early,
+      )
+
+module _ (s : ℕ) (vs : List KnownBag) (rounds : ℕ) (some : rounds ≢ 0) (known : Bool)
+    (is : IsTrue known ↔ All (λ v. v.is_found ≡ true) vs) where
   -- nothing is left
-  pub none_left : (known : Bool) → (IsTrue known ↔ All (λ v. v.is_found ≡ true) vs)
-      → known ≡ true → (a : Option (List Beat)) → IsNext s (open_of vs) rounds a a false
-  none_left known is all a =
+  pub none_left : known ≡ true → (a : Option (List Beat)) → IsNext s (open_of vs) rounds a a false
+  none_left all a =
       (omega (arith, some), ([], Beats-none a, inl (none_open vs (is.0 all), refl)))
 
-  module _ (a b : Option (List Beat)) (known over : Bool)
-      (is : IsTrue known ↔ All (λ v. v.is_found ≡ true) vs) (not_all : known ≡ false)
-      (read : (time : Option ℕ) × Beats a b (Read time ∷ []) × (over ≡ is_over s time)) where
+  module _ (not_all : known ≡ false) where
     not_none : open_of vs ≢ []
     not_none none = absurd (cc (sym (is.1 (all_found vs none)) ∙ not_all))
 
-    -- the time is over
-    pub is_late : over ≡ true → IsNext s (open_of vs) rounds a b false
-    is_late late = go read
-      where
-        go : (time : Option ℕ) × Beats a b (Read time ∷ []) × (over ≡ is_over s time)
-            → IsNext s (open_of vs) rounds a b false
-        go (time, beats, same) = (
-          omega (arith, some),
-          (Read time ∷ [], beats, inr (not_none, (time, refl, sym same ∙ late))),
-        )
-
-    -- there is time, and it is waited for
-    pub goes_on : over ≡ false → (c : Option (List Beat)) (millis : ℕ)
-        → millis ≡ pause_after (rounds - 1) → Beats b c (Paused millis ∷ [])
-        → IsNext s (open_of vs) rounds a c true
-    goes_on early c millis long paused = go read
-      where
-        go : (time : Option ℕ) × Beats a b (Read time ∷ []) × (over ≡ is_over s time)
-            → IsNext s (open_of vs) rounds a c true
-        go (None, beats, same) = absurd (cc (sym same ∙ early))
-        go (Some passed, beats, same) =
-            inr (
-              omega (arith, some),
-              not_none,
-              (
-                passed,
-                Beats-trans a b c (Read (Some passed) ∷ [])
-                    (Paused (pause_after (rounds - 1)) ∷ []) beats
-                    (subst (λ (k : ℕ). Beats b c (Paused k ∷ [])) long paused),
-                sym same ∙ early,
-              ),
-            )
+    -- something is, and there is time for it or not
+    pub some_left : (a b : Option (List Beat)) (goes : Bool) → WaitsForRound s (rounds - 1) a b goes
+        → IsNext s (open_of vs) rounds a b goes
+    some_left a b true (passed, beats, isnt) =
+        inr (omega (arith, some), not_none, (passed, beats, isnt))
+    some_left a b false (last, beats, over) =
+        (omega (arith, some), (last, beats, inr (not_none, over)))

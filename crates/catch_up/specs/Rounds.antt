@@ -12,7 +12,7 @@ use Rattle.site_commands.specs.declared.reply.ClientReply.{ClientReply}
 use Rattle.site_commands.specs.declared.reply.ClientReply.TheVariants.{ToDeposit, ToQuery}
 use Rattle.site_commands.specs.declared.reply.Wanted.TheVariants as wanted
 use Rattle.site_commands.specs.Replies.{Question, datagram_to, first_reply}
-use Rattle.site_commands.specs.Exchanges.{Asks}
+use Rattle.site_commands.specs.Exchanges.{Asks, HasAsked}
 use Rattle.site_commands.specs.Recoveries.{recovery_of}
 use Rattle.catch_up.specs.declared.rounds.Target.{Target}
 use Rattle.catch_up.specs.Lines.{known_line}
@@ -45,6 +45,12 @@ bag_in (Some (ToQuery answer)) = bag_by answer
 
 -- The site is asked for the slot's bag, in each round once; so the round is how many questions
 -- about it came before. After enough of them each question brings a Recover.
+abbrev pub HasAskedFor : Target → SlotName → List Move → Type 0
+HasAskedFor asked slot moves =
+    HasAsked (asked.target, datagram_to (question asked slot) None)
+    (recovery_of (question asked slot)) moves
+
+-- the same, as far as there is memory for its datagrams
 abbrev pub AsksFor : Target → SlotName → List Move → Type 0
 AsksFor asked slot moves =
     Asks (asked.target, datagram_to (question asked slot) None) (recovery_of (question asked slot))
@@ -53,10 +59,10 @@ AsksFor asked slot moves =
 -- it is asked, and this is the bag in its first reply to that query
 abbrev pub IsAnswer : Target → SlotName → Answer → List Move → Type 0
 IsAnswer asked slot answer moves =
-    AsksFor asked slot moves
+    HasAskedFor asked slot moves
     × (answer ≡ bag_in (first_reply (question asked slot) wanted.ToQuery moves))
 
--- the site is asked once more at most, for some slot's bag
+-- the site is asked once more at most, for some slot's bag, as far as there is memory for it
 abbrev pub IsOneMore : Target → List Move → Type 0
 IsOneMore asked moves = (slot : SlotName) × AsksFor asked slot moves
 

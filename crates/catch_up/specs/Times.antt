@@ -51,6 +51,14 @@ abbrev pub ReadsOver : (seconds : ℕ) → List Beat → Type 0
 ReadsOver seconds last =
     (time : Option ℕ) × (last ≡ Read time ∷ []) × (is_over seconds time ≡ true)
 
+-- There is time for another round, and it is waited for, after so many pauses; or time is over.
+abbrev pub WaitsForRound : (seconds pauses : ℕ) → (old new : Option (List Beat)) → Bool → Type 0
+WaitsForRound seconds pauses old new true =
+    (passed : ℕ) × Beats old new (Read (Some passed) ∷ Paused (pause_after pauses) ∷ [])
+    × (is_over seconds (Some passed) ≡ false)
+WaitsForRound seconds pauses old new false =
+    (last : List Beat) × Beats old new last × ReadsOver seconds last
+
 -- so many rounds can be counted
 abbrev pub most_rounds : ℕ
 most_rounds = 4294967295

@@ -4,7 +4,7 @@ use std::time::{Clock, Duration, Instant};
 
 /// A timer by a clock of the system. No contract says what the clock does.
 #[derive(Drop)]
-pub(crate) struct ClockTimer<'a, C: Clock> {
+pub struct ClockTimer<'a, C: Clock> {
     clock: &'a C,
     /// When it was started, if that could be read.
     start: Option<Instant>,
@@ -12,7 +12,7 @@ pub(crate) struct ClockTimer<'a, C: Clock> {
 
 impl<'a, C: Clock> ClockTimer<'a, C> {
     /// It is started.
-    pub(crate) fn new(clock: &'a C) -> ClockTimer<'a, C> {
+    pub fn new(clock: &'a C) -> ClockTimer<'a, C> {
         ClockTimer {
             clock,
             start: Instant::now(clock).ok(),

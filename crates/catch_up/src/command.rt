@@ -3,20 +3,17 @@
 use crate::arguments::CatchUpTask;
 use crate::clock_timer::ClockTimer;
 use crate::rounds::{Target, catch_up_on};
+use crate::sites::{SiteToAsk, Sites, sites_for};
 use crate::version_speaker::VersionSpeaker;
-use addresses::Address;
 use counted_writes::CountedWriter;
 use file_words::SpokenLines;
 use json_lines::JsonLines;
-use known_bags::{KnownBag, push_source, write_fault};
+use known_bags::{DiskSources, KnownBag, push_sources, write_fault};
 use outcomes::ProgramFault;
-use site_commands::{
-    Stop, address_of, addresses_of, client_socket, keys_for, members_at, write_stop,
-};
+use site_commands::{Stop, write_stop};
 use site_words::{Asked, SpokenOutput};
 use std::io;
 use std::io::Write;
-use udp_site::{UdpPort, Waits};
 
 /// Asks as the arguments say. The lines are written to standard output, and said in words on
 /// standard error, if that is asked for.
@@ -25,13 +22,17 @@ pub fn catch_up_site(rt: &HostRuntime, task: &CatchUpTask<'_>) -> Result<u8, Pro
     let output = JsonLines::new(rt.alloc(), task.json, io::writer(rt));
     let output = SpokenLines::new(rt.alloc(), speaker, output);
     let mut versions = Vec::new(rt.alloc());
-    for path in &task.files {
-        match push_source(rt, &mut versions, path) {
-            Ok(()) => {}
-            Err(fault) => return write_fault(rt.alloc(), &mut CountedWriter::new(output), fault),
-        }
+    match push_sources(rt.alloc(), &DiskSources { rt }, &mut versions, &task.files) {
+        Ok(()) => {}
+        Err(fault) => return write_fault(rt.alloc(), &mut CountedWriter::new(output), fault),
     }
-    match asked_by(rt, task) {
+    let to_ask = SiteToAsk {
+        members: task.members,
+        key: task.key,
+        to: task.to,
+        wait: task.wait,
+    };
+    match sites_for(rt, &to_ask) {
         Ok(sites) => ask_all(rt, task, sites, &mut versions, output),
         Err(stop) => refuse(rt, task, stop),
     }
@@ -52,29 +53,6 @@ fn refuse(rt: &HostRuntime, task: &CatchUpTask<'_>, stop: Stop) -> Result<u8, Pr
     let asked = if task.words { Some(asked) } else { None };
     let output = JsonLines::new(rt.alloc(), task.json, io::writer(rt));
     write_stop(rt.alloc(), &mut SpokenOutput::new(rt, asked, output), stop)
-}
-
-/// The federation, the address of the site that is asked, those of all sites, and the socket from
-/// which it is asked.
-#[derive(Drop)]
-struct Sites {
-    federation: u64,
-    target: Address,
-    addresses: Vec<Address>,
-    port: UdpPort,
-}
-
-fn asked_by(rt: &HostRuntime, task: &CatchUpTask<'_>) -> Result<Sites, Stop> {
-    let members = members_at(rt, task.members)?;
-    let target = address_of(&members, task.to)?;
-    let addresses = addresses_of(rt.alloc(), &members)?;
-    let keys = keys_for(rt, task.key)?;
-    Ok(Sites {
-        federation: members.members().federation(),
-        target,
-        addresses,
-        port: client_socket(rt, &members, target, Waits::always(task.wait), keys)?,
-    })
 }
 
 fn ask_all<W: Write + Drop>(

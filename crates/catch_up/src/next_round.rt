@@ -3,7 +3,7 @@
 ghost use Rattle.std.specs.Prelude.{◌≡◌, ◌↔◌, ℕ, [], ◌∷◌, Option, IsTrue, true};
 ghost use Rattle.std.specs.List.{All};
 ghost use Rattle.catch_up.specs.Rounds.{open_of};
-ghost use Rattle.catch_up.specs.Times.{Read, Beats, is_over, pause_after};
+ghost use Rattle.catch_up.specs.Times.{Read, Beats, is_over, pause_after, WaitsForRound};
 ghost use Rattle.catch_up.specs.inner.Progress.{IsNext};
 
 use crate::timer::Timer;
@@ -28,10 +28,21 @@ pub(crate) fn awaits_round<T: Timer>(
     if rounds == 0 {
         return true;
     }
-    if are_all_known(versions) || is_over(timer, seconds) {
+    if are_all_known(versions) {
         return false;
     }
-    timer.pause(pause_after(rounds - 1));
+    waits_for_round(timer, u64::from(seconds), rounds - 1)
+}
+
+/// Whether so many seconds haven't passed yet. Then it waits for another round, if there were so
+/// many pauses before.
+pub fn waits_for_round<T: Timer>(timer: &mut T, seconds: u64, pauses: u32) -> bool
+    ensures { WaitsForRound seconds pauses (T.beats timer.old) (T.beats timer.new) result }
+{
+    if is_over(timer, seconds) {
+        return false;
+    }
+    timer.pause(pause_after(pauses));
     true
 }
 
@@ -43,13 +54,13 @@ fn are_all_known(versions: &[KnownBag]) -> bool
 }
 
 // Whether so many seconds have passed.
-fn is_over<T: Timer>(timer: &mut T, seconds: u32) -> bool
+fn is_over<T: Timer>(timer: &mut T, seconds: u64) -> bool
     ensures { (time : Option ℕ)
         × Beats (T.beats timer.old) (T.beats timer.new) (Read time ∷ [])
         × (result ≡ is_over seconds time) }
 {
     match timer.seconds() {
-        Some(passed) => u64::from(seconds) <= passed,
+        Some(passed) => seconds <= passed,
         None => true,
     }
 }

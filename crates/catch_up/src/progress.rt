@@ -11,7 +11,7 @@ use words::push_escaped;
 /// `known OBJ V HEX`: the site knows the bag that the source knows; or `other OBJ V HEX HEX`: it
 /// knows the first, and the source knows the second.
 #[tactic(auto, unfolding(crate::specs::Lines::known_line))]
-pub(crate) fn known_line(
+pub fn known_line(
     alloc: Global,
     slot: &Slot,
     bag: BagId,
@@ -32,7 +32,7 @@ pub(crate) fn known_line(
 
 /// `open OBJ V`: the site doesn't know the version.
 #[tactic(auto, unfolding(crate::specs::Lines::open_line))]
-pub(crate) fn open_line(alloc: Global, slot: &Slot) -> Result<String, AllocError>
+pub fn open_line(alloc: Global, slot: &Slot) -> Result<String, AllocError>
     ensures { IfOk result (λ line. string_bytes line ≡ open_line slot.now) }
 {
     let mut line = String::new(alloc);
@@ -44,7 +44,7 @@ pub(crate) fn open_line(alloc: Global, slot: &Slot) -> Result<String, AllocError
 
 /// `K of N`.
 #[tactic(auto, unfolding(crate::specs::Lines::count_line))]
-pub(crate) fn count_line(alloc: Global, same: usize, count: usize) -> Result<String, AllocError>
+pub fn count_line(alloc: Global, same: usize, count: usize) -> Result<String, AllocError>
     ensures { IfOk result (λ line. string_bytes line ≡ count_line same count) }
 {
     format!(in alloc; "{same} of {count}\n")

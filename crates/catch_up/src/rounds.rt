@@ -38,8 +38,8 @@ pub struct Target<'a> {
 }
 
 impl<'a> Target<'a> {
-    // The same in this round.
-    fn at(&self, round: u32) -> Target<'a>
+    /// The same in this round.
+    pub fn at(&self, round: u32) -> Target<'a>
         ensures { result ≡ in_round self.now round }
     {
         Target {

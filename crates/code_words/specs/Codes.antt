@@ -47,6 +47,6 @@ other_codes =
     ∷ codes "members other list" ∷ codes "not a member" ∷ codes "same file" ∷ codes "key unread"
     ∷ codes "key open to others" ∷ codes "key line N" ∷ codes "key lacks sites"
     ∷ codes "key same file" ∷ codes "key exists" ∷ codes "key unwritten" ∷ codes "bags unread"
-    ∷ codes "socket" ∷ codes "torn BYTES" ∷ codes "damaged OFFSET" ∷ codes "ledger line N"
-    ∷ codes "in-use CELL" ∷ codes "unread CELL" ∷ codes "foreign CELL"
-    ∷ codes "damaged CELL OFFSET" ∷ codes "conflict OBJ V HEX HEX" ∷ []
+    ∷ codes "deposits unread" ∷ codes "deposits line N" ∷ codes "socket" ∷ codes "torn BYTES"
+    ∷ codes "damaged OFFSET" ∷ codes "ledger line N" ∷ codes "in-use CELL" ∷ codes "unread CELL"
+    ∷ codes "foreign CELL" ∷ codes "damaged CELL OFFSET" ∷ codes "conflict OBJ V HEX HEX" ∷ []

@@ -3,7 +3,7 @@
 use crate::meaning::Meaning;
 
 /// What these lines say.
-pub static OTHERS: [Meaning; 28] = [
+pub static OTHERS: [Meaning; 30] = [
     Meaning {
         code: "memory",
         words: "memory ran out",
@@ -98,6 +98,16 @@ pub static OTHERS: [Meaning; 28] = [
         code: "bags unread",
         words: "what --bags names isn't a folder that can be read",
         advice: "look at the path and the mount",
+    },
+    Meaning {
+        code: "deposits unread",
+        words: "the list of deposits can't be read",
+        advice: "look at the path and the rights",
+    },
+    Meaning {
+        code: "deposits line N",
+        words: "the line isn't `OBJ V PATH`, or an earlier one has its OBJ and V",
+        advice: "write %20 for a blank in a name; give a version one bag",
     },
     Meaning {
         code: "socket",

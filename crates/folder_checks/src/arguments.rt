@@ -83,7 +83,8 @@ all are checked:
   FOLDER is no registered bag   it is a valid bag, but that of no version
   not among these: OBJ V        no folder is the bag of this version
 and if FILE can't be used, the only line on standard output says why: `open 4`,
-`damaged OFFSET`, `ledger line N`.
+`damaged OFFSET`, `ledger line N`. With --versions standard output has all of
+these lines, after those of the folders.
 
 The exit status is 0 if each folder is a valid bag, and with --registered each
 is registered and none is missing; 1 for all else; and 2 for a mistake in the
@@ -119,6 +120,8 @@ pub struct CheckTask<'a> {
     /// The path of the cell or list that knows the registered bags, if the folders are compared
     /// with it.
     pub registered: Option<&'a str>,
+    /// Whether what that gives is printed, and not said on standard error.
+    pub versions: bool,
 }
 
 impl CheckTask<'_> {
@@ -156,6 +159,7 @@ pub fn check_task<'a>(
         progress: matches.get_flag("progress"),
         quiet: matches.get_flag("quiet"),
         registered: matches.get_str("registered"),
+        versions: matches.get_flag("versions"),
     })
 }
 
@@ -190,7 +194,15 @@ pub fn check_command<'a>(alloc: Global) -> Result<Command<'a>, AllocError> {
     let command = with_flags(command, progress, quiet_argument(alloc)?)?;
     let command = with_flags(command, named_argument(alloc)?, list_argument(alloc)?)?;
     let command = with_flags(command, list0_argument(alloc)?, json_argument(alloc)?)?;
-    with_flags(command, registered, folders_argument(alloc)?)
+    with_flags(command, registered, versions_argument(alloc)?)?.arg(folders_argument(alloc)?)
+}
+
+fn versions_argument<'a>(alloc: Global) -> Result<Arg<'a>, AllocError> {
+    Arg::new(alloc, "versions")
+        .long("versions")
+        .action(ArgAction::SetTrue)
+        .help("Print that, in place of saying it on standard error")
+        .requires_arg("registered")
 }
 
 fn named_argument<'a>(alloc: Global) -> Result<Arg<'a>, AllocError> {

@@ -1,7 +1,7 @@
 -- Datagrams that are taken in one after another, and the first reply among them.
 use Rattle.std.proofs.Common.{◌≡◌, ℕ, List, [], ◌∷◌, ◌++◌, Option, Some, None, Result, Ok, Err}
 use Rattle.std.proofs.Common.{refl, sym, ap, subst, ◌∙◌, Bool, true, false, ◌&&◌, ◌==◌, cond}
-use Rattle.std.specs.Prelude.{IfOk, IsErrAnd}
+use Rattle.std.specs.Prelude.{IfOk, IsErr, IsErrAnd}
 use Rattle.std.specs.Option.{option_or, option_map}
 use Rattle.dgram.specs.declared.answers.DepositAnswer.{DepositAnswer}
 use Rattle.dgram.specs.declared.answers.QueryAnswer.{QueryAnswer}
@@ -11,10 +11,7 @@ use Rattle.dgram.specs.declared.body.Body.{Body}
 use Rattle.dgram.specs.declared.body.Body.TheVariants as bodies
 use Rattle.dgram.specs.declared.message.Message.{Message}
 use Rattle.dgram.specs.Decoded.{message_of}
-use Rattle.udp_site.specs.declared.port_fault.PortFault.{PortFault}
-use Rattle.udp_site.specs.declared.port_fault.PortFault.TheVariants as faults
 use Rattle.udp_site.specs.Traffic.{Nothing, From, Post, Move, Took, Failed, Handed, Grows}
-use Rattle.udp_site.specs.Traffic.{IsHanded}
 use Rattle.udp_site.proofs.Growth.{Grows-trans, Grows-none}
 use Rattle.site_commands.specs.declared.reply.ClientReply.{ClientReply}
 use Rattle.site_commands.specs.declared.reply.ClientReply.TheVariants.{ToDeposit, ToQuery}
@@ -22,9 +19,10 @@ use Rattle.site_commands.specs.declared.reply.Wanted.{Wanted}
 use Rattle.site_commands.specs.declared.reply.Wanted.TheVariants as wanted
 use Rattle.site_commands.specs.Replies.{Question, datagram_to, reply_by, reply_of, reply_from}
 use Rattle.site_commands.specs.Replies.{reply_at, first_reply}
-use Rattle.site_commands.specs.Exchanges.{OnlyTakes, HandsNext, Asks, IsAsked, IsAskedForBag}
+use Rattle.site_commands.specs.Exchanges.{OnlyTakes, HandsNext, Asks, IsAsked, handed_if}
+use Rattle.site_commands.specs.Exchanges.{HasAsked, IsAskedAgain, IsAskedForBag}
 use Rattle.site_commands.specs.Recoveries.{recovery_of, recovery_port, recovery_datagram}
-use Rattle.site_commands.specs.inner.Heard.{BringsNone, TakesOne, handed_if, IsAskedToRecover}
+use Rattle.site_commands.specs.inner.Heard.{BringsNone, TakesOne, IsTaken, IsAskedToRecover}
 use Rattle.site_commands.specs.inner.Heard.{OnlyHands, IsHandedOut, Hears, query_in}
 
 pub takes_both : (m n : List Move) → OnlyTakes m → OnlyTakes n → OnlyTakes (m ++ n)
@@ -124,7 +122,7 @@ err_if_ok (Err e) P Q is = tt
 
 -- it is not time for a Recover
 pub no_recovery : (q : Question) (a : Option (List Move)) → None ≡ recovery_port q
-    → IsAskedToRecover q a a (Ok tt)
+    → IsAskedToRecover q a a (Ok true)
 no_recovery q a none =
     subst (λ (port : Option ℕ). Grows a a (handed_if (option_map (λ p. (p, recovery_datagram q)) port)))
     none (Grows-none a)
@@ -132,21 +130,18 @@ no_recovery q a none =
 -- one was handed out, unless there was no memory for it
 pub recovery_sent : (q : Question) (a b : Option (List Move)) (port : ℕ) (bytes : List ℕ)
     → Some port ≡ recovery_port q → bytes ≡ recovery_datagram q
-    → (result : Result (Unit {0}) PortFault) → IsHanded a b (port, bytes) result
+    → (result : Result Bool AllocError) → IsTaken a b (port, bytes) result
     → IsAskedToRecover q a b result
-recovery_sent q a b port bytes to are (Err faults.Memory) handed = handed
-recovery_sent q a b port bytes to are (Err faults.Device) handed =
-    one_sent q a b port bytes to are handed
-  where
-    one_sent : (q : Question) (a b : Option (List Move)) (port : ℕ) (bytes : List ℕ)
-        → Some port ≡ recovery_port q → bytes ≡ recovery_datagram q
-        → Grows a b (Handed (port, bytes) ∷ []) → Grows a b (handed_if (recovery_of q))
-    one_sent q a b port bytes to are handed =
-        subst (λ (o : Option ℕ). Grows a b (handed_if (option_map (λ p. (p, recovery_datagram q)) o)))
-        to (subst (λ (l : List ℕ). Grows a b (Handed (port, l) ∷ [])) are handed)
-recovery_sent q a b port bytes to are (Ok done) handed =
+recovery_sent q a b port bytes to are (Ok took) handed =
     subst (λ (o : Option ℕ). Grows a b (handed_if (option_map (λ p. (p, recovery_datagram q)) o)))
     to (subst (λ (l : List ℕ). Grows a b (Handed (port, l) ∷ [])) are handed)
+recovery_sent q a b port bytes to are (Err fault) handed = handed
+
+-- there was no memory for its datagram
+pub recovery_unmade : (q : Question) (a : Option (List Move)) (result : Result Bool AllocError)
+    → IsErr result → IsAskedToRecover q a a result
+recovery_unmade q a (Ok took) err = absurd (cc err)
+recovery_unmade q a (Err fault) err = Grows-none a
 
 -- after a Recover nothing but what is taken in follows
 hands_then : (post : Option Post) (moves : List Move) → OnlyTakes moves
@@ -175,61 +170,97 @@ none_in_only_handed q kind (Took taken ∷ moves) p = absurd p
 none_in_only_handed q kind (Failed ∷ moves) p = absurd p
 none_in_only_handed q kind (Handed post ∷ moves) p = none_in_only_handed q kind moves p
 
+hands_all : (post : Option Post) → HandsNext post (handed_if post)
+hands_all None = tt
+hands_all (Some post) = (refl, tt)
+
 module _ (q : Question) (bytes : List ℕ) where
-  -- the question was handed out, and then a Recover, if it was time for one
-  pub hands_both : (a b c : Option (List Move)) → Grows a b (Handed (q.target, bytes) ∷ [])
-      → (result : Result (Unit {0}) PortFault) → IsAskedToRecover q b c result
+  -- there was no memory for the question
+  pub hands_nothing : (a b : Option (List Move)) → Grows a b [] → (result : Result Bool AllocError)
+      → IsErr result → IsHandedOut q bytes a b result
+  hands_nothing a b none (Ok took) err = absurd (cc err)
+  hands_nothing a b none (Err e) err = ([], none, tt, tt)
+
+  -- the question was handed out, and there was no memory for a Recover
+  pub hands_question : (a b c : Option (List Move)) → Grows a b (Handed (q.target, bytes) ∷ [])
+      → Grows b c [] → (result : Result Bool AllocError) → IsErr result
       → IsHandedOut q bytes a c result
-  hands_both a b c handed (Ok done) more = Grows-trans a b c _ _ handed more
-  hands_both a b c handed (Err faults.Memory) more = (
+  hands_question a b c handed none (Ok took) err = absurd (cc err)
+  hands_question a b c handed none (Err e) err = (
     Handed (q.target, bytes) ∷ [],
-    Grows-trans a b c _ _ handed more,
+    Grows-trans a b c (Handed (q.target, bytes) ∷ []) [] handed none,
     (refl, hands_no_more (recovery_of q)),
     tt,
   )
-  hands_both a b c handed (Err faults.Device) more = (
-    Handed (q.target, bytes) ∷ handed_if (recovery_of q),
-    Grows-trans a b c _ _ handed more,
-    (refl, hands_all (recovery_of q)),
-    only_hands (recovery_of q),
-  )
-    where
-      hands_all : (post : Option Post) → HandsNext post (handed_if post)
-      hands_all None = tt
-      hands_all (Some post) = (refl, tt)
 
-  -- the question wasn't handed out whole
-  pub hands_question : (a b : Option (List Move)) (fault : PortFault)
-      → IsHanded a b (q.target, bytes) (Err fault) → (result : Result (Unit {0}) PortFault)
-      → IsErrAnd result (λ e. e ≡ fault) → IsHandedOut q bytes a b result
-  hands_question a b fault handed (Ok done) err = absurd err
-  hands_question a b faults.Memory handed (Err e) err = ([], handed, tt, tt)
-  hands_question a b faults.Device handed (Err e) err =
-      (Handed (q.target, bytes) ∷ [], handed, (refl, hands_no_more (recovery_of q)), tt)
+  -- all is handed out
+  abbrev pub HandsAll : (before after : Option (List Move)) → Type 0
+  HandsAll before after =
+      Grows before after (Handed (q.target, bytes) ∷ handed_if (recovery_of q))
+
+  -- both were, if it was time for a Recover
+  pub hands_both : (a b c : Option (List Move)) → Grows a b (Handed (q.target, bytes) ∷ [])
+      → Grows b c (handed_if (recovery_of q)) → HandsAll a c
+  hands_both a b c handed more =
+      Grows-trans a b c (Handed (q.target, bytes) ∷ []) (handed_if (recovery_of q)) handed more
 
   module _ (kind : Wanted) where
+    in_all : (moves : List Move) (r : Result (Option ClientReply) AllocError)
+        → IfOk r (λ reply. reply ≡ first_reply q kind moves)
+        → IfOk r (λ reply. reply ≡ first_reply q kind (handed_if (recovery_of q) ++ moves))
+    in_all moves (Ok given) is = is ∙ none_in_handed q kind (recovery_of q) moves
+    in_all moves (Err fault) is = tt
+
     -- all was handed out, and then some are taken in
-    pub asks_then : (a b c : Option (List Move)) → IsHandedOut q bytes a b (Ok tt)
+    pub asks_then : (a b c : Option (List Move)) → HandsAll a b
         → (result : Result (Option ClientReply) AllocError) → Hears q kind b c result
         → IsAsked q kind bytes a c result
     asks_then a b c handed result (moves, grows, takes, reply) = (
       Handed (q.target, bytes) ∷ (handed_if (recovery_of q) ++ moves),
       Grows-trans a b c _ moves handed grows,
       (refl, hands_then (recovery_of q) moves takes),
-      go result reply,
+      in_all moves result reply,
     )
-      where
-        go : (r : Result (Option ClientReply) AllocError)
-            → IfOk r (λ reply. reply ≡ first_reply q kind moves)
-            → IfOk r (λ reply. reply ≡ first_reply q kind (handed_if (recovery_of q) ++ moves))
-        go (Ok given) is = is ∙ none_in_handed q kind (recovery_of q) moves
-        go (Err fault) is = tt
 
-    -- not all was
-    pub asks_no_more : (a b : Option (List Move)) (fault : PortFault)
-        → IsHandedOut q bytes a b (Err fault) → IsAsked q kind bytes a b (Ok None)
-    asks_no_more a b fault (moves, grows, asks, hands) =
+    -- nothing is
+    pub asks_no_more : (a b : Option (List Move)) (out : Result Bool AllocError)
+        → IsHandedOut q bytes a b out → IsAsked q kind bytes a b (Ok None)
+    asks_no_more a b (Ok took) handed = (
+      Handed (q.target, bytes) ∷ handed_if (recovery_of q),
+      handed,
+      (refl, hands_all (recovery_of q)),
+      none_in_only_handed q kind (handed_if (recovery_of q)) (only_hands (recovery_of q)),
+    )
+    asks_no_more a b (Err fault) (moves, grows, asks, hands) =
         (moves, grows, asks, none_in_only_handed q kind moves hands)
+
+    -- the same where there is memory for all
+    pub again_then : (a b c : Option (List Move)) → HandsAll a b
+        → (result : Result (Option ClientReply) AllocError) → Hears q kind b c result
+        → IsAskedAgain q kind bytes a c result
+    again_then a b c handed (Ok given) (moves, grows, takes, reply) = (
+      Handed (q.target, bytes) ∷ (handed_if (recovery_of q) ++ moves),
+      Grows-trans a b c _ moves handed grows,
+      (moves, refl, takes),
+      reply ∙ none_in_handed q kind (recovery_of q) moves,
+    )
+    again_then a b c handed (Err fault) (moves, grows, takes, reply) = (
+      Handed (q.target, bytes) ∷ (handed_if (recovery_of q) ++ moves),
+      Grows-trans a b c _ moves handed grows,
+      (refl, hands_then (recovery_of q) moves takes),
+    )
+
+    pub again_no_more : (a b : Option (List Move)) → HandsAll a b
+        → IsAskedAgain q kind bytes a b (Ok None)
+    again_no_more a b handed =
+        again_then a b b handed (Ok None) ([], Grows-none b, tt, refl)
+
+    -- there wasn't
+    pub again_cut : (a b : Option (List Move)) (fault : AllocError)
+        → IsHandedOut q bytes a b (Err fault) → (result : Result (Option ClientReply) AllocError)
+        → IsErr result → IsAskedAgain q kind bytes a b result
+    again_cut a b fault handed (Ok given) err = absurd (cc err)
+    again_cut a b fault (moves, grows, asks, hands) (Err e) err = (moves, grows, asks)
 
 -- ---- a bag that is asked for
 
@@ -287,12 +318,27 @@ first_of_query q (move ∷ moves) =
 -- what is replied to a query is its answer
 pub bag_asked : (q : Question) (bytes : List ℕ) → bytes ≡ datagram_to q None
     → (a b : Option (List Move)) (reply : Option ClientReply) (answer : Option QueryAnswer)
-    → answer ≡ query_in reply → IsAsked q wanted.ToQuery bytes a b (Ok reply)
+    → answer ≡ query_in reply → IsAskedAgain q wanted.ToQuery bytes a b (Ok reply)
     → IsAskedForBag q a b (Ok answer)
 unfolding IsOfQuery
 bag_asked q bytes are a b reply answer is (moves, grows, asks, first) = (
   moves,
   grows,
-  subst (λ (sent : List ℕ). Asks (q.target, sent) (recovery_of q) moves) are asks,
+  subst (λ (sent : List ℕ). HasAsked (q.target, sent) (recovery_of q) moves) are asks,
   ap (option_map ToQuery) (is ∙ ap query_in first) ∙ first_of_query q moves,
 )
+
+-- memory ran out
+pub bag_unasked : (q : Question) (bytes : List ℕ) → bytes ≡ datagram_to q None
+    → (a b : Option (List Move)) (fault : AllocError)
+    → IsAskedAgain q wanted.ToQuery bytes a b (Err fault)
+    → (result : Result (Option QueryAnswer) AllocError) → IsErr result → IsAskedForBag q a b result
+bag_unasked q bytes are a b fault asked (Ok answer) err = absurd (cc err)
+bag_unasked q bytes are a b fault (moves, grows, asks) (Err e) err =
+    (moves, grows, subst (λ (sent : List ℕ). Asks (q.target, sent) (recovery_of q) moves) are asks)
+
+-- nothing was asked yet
+pub bag_not_begun : (q : Question) (a : Option (List Move))
+    → (result : Result (Option QueryAnswer) AllocError) → IsErr result → IsAskedForBag q a a result
+bag_not_begun q a (Ok answer) err = absurd (cc err)
+bag_not_begun q a (Err e) err = ([], Grows-none a, tt)

@@ -1,5 +1,6 @@
 -- A client that asks again and again, until a bag is known.
-use Rattle.std.specs.Prelude.{◌≡◌, ◌⊎◌, ⊤, ℕ, Bool, true, false, if◌then◌else◌, List, [], ◌∷◌, ◌++◌}
+use Rattle.std.specs.Prelude.{◌≡◌, ◌≢◌, ◌⊎◌, ⊤, ℕ, Bool, true, false, if◌then◌else◌, List, []}
+use Rattle.std.specs.Prelude.{◌∷◌, ◌++◌}
 use Rattle.std.specs.Prelude.{Option, Some, None, Result, IfSome}
 use Rattle.std.specs.Option.{option_or}
 use Rattle.dgram.specs.declared.answers.DepositAnswer.TheVariants as deposit
@@ -12,7 +13,7 @@ use Rattle.site_commands.specs.declared.reply.ClientReply.TheVariants.{ToDeposit
 use Rattle.site_commands.specs.declared.reply.Wanted.{Wanted}
 use Rattle.site_commands.specs.declared.reply.Wanted.TheVariants as wanted
 use Rattle.site_commands.specs.Replies.{Question, datagram_to, first_reply}
-use Rattle.site_commands.specs.Exchanges.{Asks}
+use Rattle.site_commands.specs.Exchanges.{Asks, HasAsked}
 use Rattle.site_commands.specs.Recoveries.{recovery_of, next_question}
 use Rattle.site_commands.specs.Answers.{no_answer, reply_outcome, IsWritten}
 
@@ -67,7 +68,7 @@ abbrev pub AreReplies : Question → (path next : Option (List ℕ)) → List (O
 AreReplies q path next [] moves = moves ≡ []
 AreReplies q path next (reply ∷ replies) moves =
     (first : List Move) × (rest : List Move) × (moves ≡ first ++ rest)
-    × Asks (q.target, datagram_to q next) (recovery_of q) first
+    × HasAsked (q.target, datagram_to q next) (recovery_of q) first
     × (reply ≡ first_reply q (wanted_until path) first)
     × IfSome reply (λ r. is_last r ≡ true → replies ≡ [])
     × AreReplies (next_question q) path (next_path path reply) replies rest
@@ -98,13 +99,13 @@ IsBrokenOff q path before after =
     × ((others ≡ []) ⊎ (NoneEnds replies
     × AsksNext (question_after q replies) (path_after path path replies) others))
 
--- The site is asked until the bag is known, or time is over, and what is written is what its last
--- reply says; or memory runs out, and the line `memory` is.
+-- The site is asked, once at least, until the bag is known, or time is over, and what is written is
+-- what its last reply says; or memory runs out, and the line `memory` is.
 abbrev pub IsSentUntilKnown : Question → (path : Option (List ℕ))
     → (before after : Option (List Move)) → (old new : Option (List ℕ)) → Result ℕ ProgramFault
     → Type 0
 IsSentUntilKnown q path before after old new result =
     ((replies : List (Option ClientReply)) × (moves : List Move) × Grows before after moves
-    × AreReplies q path path replies moves
+    × AreReplies q path path replies moves × (replies ≢ [])
     × IsWritten old new result (until_outcome q (last_of replies)))
     ⊎ (IsBrokenOff q path before after × IsWritten old new result no_memory)

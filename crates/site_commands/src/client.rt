@@ -2,13 +2,13 @@
 
 ghost use Rattle.std.specs.Prelude.{◌≡◌, IfOk, Some};
 ghost use Rattle.site_commands.specs.Replies.{question_of};
-ghost use Rattle.site_commands.specs.Exchanges.{IsAskedForBag};
+ghost use Rattle.site_commands.specs.Exchanges.{IsAskedForBag, IsAskedAbout};
 ghost use Rattle.site_commands.specs.Answers.{IsSent, IsWritten, outcome_of};
 ghost use Rattle.site_commands.specs.inner.Written.{outcome_to, outcome_in, IsAnswered};
 
 use crate::client_answer::{deposit_text, query_text};
-use crate::exchange::{PortUse, ask, datagram};
-use crate::reply::{ClientReply, Wanted, query_in, wanted_for};
+use crate::exchange::{ask, ask_again, datagram};
+use crate::reply::{ClientReply, Wanted, query_in, wanted_about, wanted_for};
 use crate::request::Request;
 use dgram::{FolderPath, QueryAnswer};
 use outcomes::{ProgramFault, ProgramOutput, write_output};
@@ -62,7 +62,7 @@ fn answer<P: Port>(
 {
     let wanted = wanted_for(&path);
     let bytes = datagram(alloc, request, path)?;
-    match ask(alloc, port, PortUse::New, request, wanted, bytes.as_slice())? {
+    match ask(alloc, port, request, wanted, bytes.as_slice())? {
         Some(reply) => Ok(Some(answer_of(alloc, request, reply)?)),
         None => Ok(None),
     }
@@ -79,15 +79,24 @@ pub fn ask_for_bag<P: Port>(
 {
     let bytes = datagram(alloc, request, None)?;
     let wanted = Wanted::ToQuery;
-    let reply = ask(
-        alloc,
-        port,
-        PortUse::Used,
-        request,
-        wanted,
-        bytes.as_slice(),
-    )?;
+    let reply = ask_again(alloc, port, request, wanted, bytes.as_slice())?;
     Ok(query_in(reply))
+}
+
+/// What a site replies to a deposit of the folder of this path, if it replies; or without a path to
+/// a query, or to an earlier deposit. The port may have been used.
+pub fn ask_about<P: Port>(
+    alloc: Global,
+    port: &mut P,
+    request: &Request<'_>,
+    path: Option<FolderPath>,
+) -> Result<Option<ClientReply>, AllocError>
+    ensures { IsAskedAbout (question_of request.now) path
+        (P.traffic port.old) (P.traffic port.new) result }
+{
+    let wanted = wanted_about(&path);
+    let bytes = datagram(alloc, request, path)?;
+    ask_again(alloc, port, request, wanted, bytes.as_slice())
 }
 
 /// What a reply says.

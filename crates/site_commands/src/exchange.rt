@@ -3,30 +3,23 @@
 ghost use Rattle.std.specs.Prelude.{◌≡◌, IfOk};
 ghost use Rattle.std.specs.Option.{option_map};
 ghost use Rattle.site_commands.specs.Replies.{question_of, datagram_to};
-ghost use Rattle.site_commands.specs.Exchanges.{IsAsked};
+ghost use Rattle.site_commands.specs.Exchanges.{IsAsked, IsAskedAgain};
 ghost use Rattle.site_commands.specs.inner.Heard.{TakesOne, datagram_taken, IsHandedOut, Hears};
 ghost use Rattle.udp_site.specs.Traffic.{taken};
 
+use crate::handing::hand;
 use crate::recovery::ask_to_recover;
 use crate::reply::{ClientReply, Wanted, reply_from};
 use crate::request::Request;
 use addresses::Address;
 use dgram::{Body, FolderPath, LONGEST_DATAGRAM, Message, encode};
 use std::alloc::{AllocError, Global};
-use udp_site::{Port, PortFault, Turn};
+use udp_site::{Port, Turn};
 
 /// How many datagrams are taken in, of which one is to be the answer. What comes from another port
 /// is no answer, but counts: so strangers who send without end cost a client its answer, not its
 /// time.
 const MOST_DATAGRAMS: u32 = 16;
-
-/// Whether a port was used before. There a turn is idle at once, if the port's wait has passed
-/// since an earlier one, so that only the second idle turn says that nothing came.
-#[derive(Clone, Copy)]
-pub(crate) enum PortUse {
-    New,
-    Used,
-}
 
 /// The datagram of a deposit of the folder of this path, or of a query.
 #[tactic(auto, unfolding(crate::specs::Replies::datagram_to))]
@@ -47,13 +40,12 @@ pub(crate) fn datagram(
     Ok(bytes)
 }
 
-/// Sends a datagram, and gives the reply that is wanted, if it comes before a turn is idle, or
-/// before a second one at a port that was used. After the datagram a site is asked to recover, where
-/// enough questions came before.
+/// Sends a datagram, and gives the reply that is wanted, if it comes before a turn is idle. After the
+/// datagram a site is asked to recover, where enough questions came before. Where the port has no
+/// memory for one of them, there is no reply.
 pub(crate) fn ask<P: Port>(
     alloc: Global,
     port: &mut P,
-    port_use: PortUse,
     request: &Request<'_>,
     wanted: Wanted,
     bytes: &[u8],
@@ -62,28 +54,47 @@ pub(crate) fn ask<P: Port>(
         (P.traffic port.old) (P.traffic port.new) result }
 {
     match hand_out(alloc, port, request, bytes) {
-        Ok(()) => {}
-        Err(_) => return Ok(None),
-    }
-    let reply = receive_reply(alloc, port, request, wanted)?;
-    match (reply, port_use) {
-        (None, PortUse::Used) => receive_reply(alloc, port, request, wanted),
-        _ => Ok(reply),
+        Ok(true) => receive_reply(alloc, port, request, wanted),
+        _ => Ok(None),
     }
 }
 
-// Sends a datagram, and after it the one that asks a site to recover, where it is time for it.
+/// The same at a port that may have been used. There a turn is idle at once, if the port's wait has
+/// passed since an earlier one, so that only the second idle turn says that nothing came. Both
+/// datagrams are handed out, unless memory runs out.
+pub(crate) fn ask_again<P: Port>(
+    alloc: Global,
+    port: &mut P,
+    request: &Request<'_>,
+    wanted: Wanted,
+    bytes: &[u8],
+) -> Result<Option<ClientReply>, AllocError>
+    ensures { IsAskedAgain (question_of request.now) wanted bytes.now
+        (P.traffic port.old) (P.traffic port.new) result }
+{
+    if !hand_out(alloc, port, request, bytes)? {
+        return Ok(None);
+    }
+    match receive_reply(alloc, port, request, wanted)? {
+        None => receive_reply(alloc, port, request, wanted),
+        reply => Ok(reply),
+    }
+}
+
+// Sends a datagram, and after it the one that asks a site to recover, where it is time for it. Says
+// whether the device took them.
 fn hand_out<P: Port>(
     alloc: Global,
     port: &mut P,
     request: &Request<'_>,
     bytes: &[u8],
-) -> Result<(), PortFault>
+) -> Result<bool, AllocError>
     ensures { IsHandedOut (question_of request.now) bytes.now
         (P.traffic port.old) (P.traffic port.new) result }
 {
-    port.send(request.target, bytes)?;
-    ask_to_recover(alloc, port, request)
+    let is_taken = hand(port, request.target, bytes)?;
+    let is_recovery_taken = ask_to_recover(alloc, port, request)?;
+    Ok(is_taken && is_recovery_taken)
 }
 
 // The reply that is wanted, if it comes before a turn is idle.

@@ -16,6 +16,7 @@ mod exchange;
 mod file_members;
 mod first_start;
 mod folders_below;
+mod handing;
 mod key_files;
 mod member_words;
 mod members_arguments;
@@ -35,7 +36,7 @@ mod stop;
 mod udp_socket;
 mod until_known;
 
-pub use client::{ask_for_bag, send_on};
+pub use client::{ask_about, ask_for_bag, send_on};
 pub use client_command::send_to_site;
 pub use file_members::{address_of, addresses_of, members_at};
 pub use first_start::{Unprepared, prepare_cell};

@@ -1,7 +1,7 @@
 //! The arguments of the command `members`.
 
 use crate::member_words::list_fault;
-use crate::site_arguments::key_argument;
+use crate::site_arguments::{key_argument, words_argument};
 use clap::{Arg, ArgAction, ArgMatches, Command};
 use json_lines::json_argument;
 use std::alloc::{AllocError, Global};
@@ -32,7 +32,9 @@ compare names, and never keys. With --new-key it writes a key file, for its
 owner alone, with random keys, and prints their names.
 
 With --json each line is a line of JSON: an object whose member `line` says what
-kind of line it is, and which has a member for each word after that.
+kind of line it is, and which has a member for each word after that. With
+--words standard error says in words what the last line says, if something is
+amiss.
 
 The exit status is 0; 1 if the last line says what is amiss:
   members unread        the members file can't be read
@@ -71,6 +73,8 @@ pub struct MembersTask<'a> {
     pub new_key: Option<&'a str>,
     /// Whether to print lines of JSON.
     pub json: bool,
+    /// Whether to say in words what a last line says is amiss.
+    pub words: bool,
 }
 
 impl MembersTask<'_> {
@@ -96,6 +100,7 @@ pub fn members_task<'a>(
         key: matches.get_str("key"),
         new_key: matches.get_str("new-key"),
         json: matches.get_flag("json"),
+        words: matches.get_flag("words"),
     })
 }
 
@@ -109,6 +114,7 @@ pub fn members_command<'a>(alloc: Global) -> Result<Command<'a>, AllocError> {
         .arg(names_argument(alloc)?)?
         .arg(new_key_argument(alloc)?)?
         .arg(lines_argument(alloc)?)?
+        .arg(words_argument(alloc))?
         .arg(file_argument(alloc)?)
 }
 

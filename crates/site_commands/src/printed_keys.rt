@@ -1,6 +1,7 @@
 //! The key files of the command `members`: the names of a file's keys, and a new file.
 
 use crate::key_files::keys_at;
+use crate::members_arguments::MembersTask;
 use crate::printed_members::{no_random_numbers, print_text};
 use crate::stop::Stop;
 use key_file::{KEY_BYTES, new_key_text};
@@ -14,13 +15,21 @@ use system_files::expect_room;
 use tags::{KeyRing, TagKey};
 
 /// Prints the names of the keys in the file of this path.
-pub(crate) fn print_keys(rt: &HostRuntime, path: &str, json: bool) -> Result<u8, ProgramFault> {
-    print_text(rt, json, names_at(rt, path))
+pub(crate) fn print_keys(
+    rt: &HostRuntime,
+    task: &MembersTask<'_>,
+    path: &str,
+) -> Result<u8, ProgramFault> {
+    print_text(rt, task, names_at(rt, path))
 }
 
 /// Writes a new key file, which nobody else may read, and prints the names of its keys. A file that
 /// is there stays as it is.
-pub(crate) fn make_keys(rt: &HostRuntime, path: &str, json: bool) -> Result<u8, ProgramFault> {
+pub(crate) fn make_keys(
+    rt: &HostRuntime,
+    task: &MembersTask<'_>,
+    path: &str,
+) -> Result<u8, ProgramFault> {
     let mut sites = [0; KEY_BYTES];
     let mut clients = [0; KEY_BYTES];
     let filled = rt.fill_bytes(&mut sites).is_ok() && rt.fill_bytes(&mut clients).is_ok();
@@ -28,8 +37,8 @@ pub(crate) fn make_keys(rt: &HostRuntime, path: &str, json: bool) -> Result<u8, 
         return no_random_numbers(rt);
     }
     match make_file(rt, path, &sites, &clients) {
-        Ok(()) => print_keys(rt, path, json),
-        Err(stop) => print_text(rt, json, Err(stop)),
+        Ok(()) => print_keys(rt, task, path),
+        Err(stop) => print_text(rt, task, Err(stop)),
     }
 }
 

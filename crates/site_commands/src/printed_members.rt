@@ -8,6 +8,7 @@ use crate::stop::{Stop, write_stop};
 use json_lines::JsonLines;
 use members_file::{MemberSites, digest_of, new_list};
 use outcomes::{ProgramFault, write_output};
+use site_words::{Asked, SpokenOutput};
 use std::alloc::{AllocError, Global};
 use std::io;
 use std::random::RandomSource;
@@ -15,23 +16,26 @@ use std::random::RandomSource;
 /// Prints what a members file or a key file says, or makes one.
 pub fn print_members(rt: &HostRuntime, task: &MembersTask<'_>) -> Result<u8, ProgramFault> {
     if let Some(path) = task.key {
-        return print_keys(rt, path, task.json);
+        return print_keys(rt, task, path);
     }
     if let Some(path) = task.new_key {
-        return make_keys(rt, path, task.json);
+        return make_keys(rt, task, path);
     }
     match task.file {
-        Some(path) => print_text(rt, task.json, summary(rt, path, task.listed)),
-        None => print_new(rt, task.sites.as_slice()),
+        Some(path) => print_text(rt, task, summary(rt, path, task.listed)),
+        None => print_new(rt, task),
     }
 }
 
 // Prints the file of a new federation. Without random numbers it would be no new one: so nothing is
 // printed then that may be taken for a members file.
-fn print_new(rt: &HostRuntime, words: &[&str]) -> Result<u8, ProgramFault> {
+fn print_new(rt: &HostRuntime, task: &MembersTask<'_>) -> Result<u8, ProgramFault> {
     let mut random = [0; 4];
     match rt.fill_bytes(&mut random) {
-        Ok(()) => print_text(rt, false, new_text(rt.alloc(), random, words)),
+        Ok(()) => {
+            let text = new_text(rt.alloc(), random, task.sites.as_slice());
+            print_text(rt, task, text)
+        }
         Err(_) => no_random_numbers(rt),
     }
 }
@@ -75,15 +79,32 @@ fn summary_of(alloc: Global, file: &MemberSites) -> Result<String, AllocError> {
     format!(in alloc; "ok {federation} {count} {quorum} {digest:016x}\n")
 }
 
-/// Prints this text, or why there is none; in lines of JSON, if they are asked for.
+/// Prints this text, or why there is none; in lines of JSON, and why in words on standard error, if
+/// they are asked for.
 pub(crate) fn print_text(
     rt: &HostRuntime,
-    json: bool,
+    task: &MembersTask<'_>,
     text: Result<String, Stop>,
 ) -> Result<u8, ProgramFault> {
-    let mut output = JsonLines::new(rt.alloc(), json, io::writer(rt));
+    let asked = if task.words { Some(asked(task)) } else { None };
+    let lines = JsonLines::new(rt.alloc(), task.json, io::writer(rt));
+    let mut output = SpokenOutput::new(rt, asked, lines);
     match text {
         Ok(text) => write_output(&mut output, 0, text.as_str()),
         Err(stop) => write_stop(rt.alloc(), &mut output, stop),
+    }
+}
+
+// What words may speak of: these files alone.
+fn asked<'a>(task: &MembersTask<'a>) -> Asked<'a> {
+    Asked {
+        members: task.file.unwrap_or_default(),
+        key: task.key.or(task.new_key),
+        site: 1,
+        cell: None,
+        bags: None,
+        path: None,
+        wait: 0,
+        until_known: None,
     }
 }

@@ -5,32 +5,32 @@ ghost use Rattle.site_commands.specs.Replies.{question_of};
 ghost use Rattle.site_commands.specs.Recoveries.{recovery_port, recovery_datagram};
 ghost use Rattle.site_commands.specs.inner.Heard.{IsAskedToRecover};
 
+use crate::handing::hand;
 use crate::request::Request;
 use addresses::Address;
 use dgram::{Body, LONGEST_DATAGRAM, Message, encode};
 use std::alloc::{AllocError, Global};
-use udp_site::{Port, PortFault};
+use udp_site::Port;
 
 /// So many questions are asked before the first recovery: the pauses between them add up to more
 /// than a second, and each later one takes a second.
 const PATIENCE: u32 = 9;
 
-/// Where it is time for it, asks a site to recover the slot. There is no reply.
+/// Where it is time for it, asks a site to recover the slot, and says whether the device took that.
+/// There is no reply.
 pub(crate) fn ask_to_recover<P: Port>(
     alloc: Global,
     port: &mut P,
     request: &Request<'_>,
-) -> Result<(), PortFault>
+) -> Result<bool, AllocError>
     ensures { IsAskedToRecover (question_of request.now)
         (P.traffic port.old) (P.traffic port.new) result }
 {
     let Some(to) = recovery_port(request) else {
-        return Ok(());
+        return Ok(true);
     };
-    match recovery_datagram(alloc, request) {
-        Ok(bytes) => port.send(to, bytes.as_slice()),
-        Err(AllocError) => Err(PortFault::Memory),
-    }
+    let bytes = recovery_datagram(alloc, request)?;
+    hand(port, to, bytes.as_slice())
 }
 
 // The port of the site that is to recover: in turn, from the site that is asked itself on.

@@ -5,6 +5,7 @@ ghost use Rattle.dgram.specs.Decoded.{message_of};
 ghost use Rattle.site_commands.specs.Replies.{question_of, wants_deposits, wants_queries};
 ghost use Rattle.site_commands.specs.Replies.{reply_by, reply_in, reply_from};
 ghost use Rattle.site_commands.specs.Answers.{wanted_for};
+ghost use Rattle.site_commands.specs.Exchanges.{wanted_about};
 ghost use Rattle.site_commands.specs.inner.Heard.{query_in};
 
 use crate::request::Request;
@@ -35,6 +36,16 @@ pub(crate) fn wanted_for(path: &Option<FolderPath>) -> Wanted
     match path {
         Some(_) => Wanted::ToDeposit,
         None => Wanted::ToQuery,
+    }
+}
+
+/// The replies to a deposit of the folder of this path; or to a query, or to an earlier deposit.
+pub(crate) fn wanted_about(path: &Option<FolderPath>) -> Wanted
+    ensures { result ≡ wanted_about path.now }
+{
+    match path {
+        Some(_) => Wanted::ToDeposit,
+        None => Wanted::Any,
     }
 }
 

@@ -37,19 +37,41 @@ the other: so it learns what was decided, even if the site that knew it is lost.
 After SECONDS, or if the deposit is refused, it prints the last line that there
 was.
 
+With --deposits FILE it deposits a bag for each line of FILE, or of standard
+input if FILE is `-`. A line is `OBJ V PATH`; in OBJ and PATH %20 stands for a
+blank, %25 for the percent sign, and so on for each unusual byte. The whole file
+is read first, and in these cases nothing is sent:
+  deposits unread              the file can't be read
+  deposits line N              this line isn't `OBJ V PATH`, or an earlier one
+                               has the same OBJ and V
+For each line it prints one, in their order:
+  registered N OBJ V HEX       the bag is deposited
+  refused N CODE OBJ V         the deposit is refused, for a CODE as above
+  open OBJ V                   the site hasn't said that it is deposited
+and with --until-known, by which up to 32 deposits are under way at a time:
+  known OBJ V HEX              the bag that was deposited is known
+  other OBJ V HEX HEX          the first is known, and the second was deposited
+  registered N OBJ V HEX       it is deposited; no more was heard in SECONDS,
+                               which begin anew with each 32
+The last line is `K of N`: K of the N deposits are `registered`, or with
+--until-known `known`. The status is 0 if K is N.
+
 With --key what is sent has a tag by the first `clients` key of the file, and an
 answer counts only with a tag by one of them. A file with no more than one line
 `clients HEX` is enough.
 
-With --words standard error says in words what a line says that isn't
-`registered` or `reply`. `bagpaxos help codes` lists what each says.
+With --words standard error says in words what a line says that isn't what was
+asked for. `bagpaxos help codes` lists what each says.
 
 The exit status is 0 for `registered` and `reply`, with --until-known for
-`reply .. known` alone; 1 for all else; and 2 for a mistake in the arguments.
+`reply .. known` alone, and with --deposits if K is N; 1 for all else; and 2 for
+a mistake in the arguments.
 
-Example:
+Examples:
   bagpaxos send --members members --to 1 --wait 1000 --until-known 30 \\
-      report 1 path/to/bag";
+      report 1 path/to/bag
+  bagpaxos send --members members --to 1 --wait 60000 --until-known 30 \\
+      --deposits list";
 
 /// What to ask of a site.
 #[derive(Clone, Copy, Debug)]
@@ -115,15 +137,16 @@ fn with_options<'a>(alloc: Global, command: Command<'a>) -> Result<Command<'a>, 
         .arg(to_argument(alloc))?
         .arg(wait_argument(alloc))?
         .arg(until_argument(alloc))?
-        .arg(words_argument(alloc))
+        .arg(words_argument(alloc))?
+        .arg(deposits_argument(alloc))
 }
 
 // With what it is asked for.
 fn with_slot<'a>(alloc: Global, command: Command<'a>) -> Result<Command<'a>, AllocError> {
-    command
-        .arg(object_argument(alloc))?
-        .arg(version_argument(alloc))?
-        .arg(path_argument(alloc))
+    let object = object_argument(alloc)?;
+    let version = version_argument(alloc)?;
+    let path = path_argument(alloc)?;
+    command.arg(object)?.arg(version)?.arg(path)
 }
 
 /// The option of the site that is asked.
@@ -144,19 +167,30 @@ fn until_argument<'a>(alloc: Global) -> Arg<'a> {
         .help("Ask until it is known, 1 to 4294967295 seconds")
 }
 
-fn object_argument<'a>(alloc: Global) -> Arg<'a> {
-    Arg::new(alloc, "OBJ")
-        .required(true)
-        .help("The name of the object, 1 to 200 bytes")
+fn deposits_argument<'a>(alloc: Global) -> Arg<'a> {
+    Arg::new(alloc, "deposits")
+        .long("deposits")
+        .value_name("FILE")
+        .help("Deposit each line `OBJ V PATH` of this file")
 }
 
-fn version_argument<'a>(alloc: Global) -> Arg<'a> {
+fn object_argument<'a>(alloc: Global) -> Result<Arg<'a>, AllocError> {
+    Arg::new(alloc, "OBJ")
+        .help("The name of the object, 1 to 200 bytes")
+        .required_unless_present("deposits")?
+        .conflicts_with("deposits")
+}
+
+fn version_argument<'a>(alloc: Global) -> Result<Arg<'a>, AllocError> {
     Arg::new(alloc, "V")
-        .required(true)
         .value_parser(value_parser!(u32).range(1..))
         .help("The version, 1 to 4294967295")
+        .required_unless_present("deposits")?
+        .conflicts_with("deposits")
 }
 
-fn path_argument<'a>(alloc: Global) -> Arg<'a> {
-    Arg::new(alloc, "PATH").help("The folder to deposit, 1 to 400 bytes, as the site names it")
+fn path_argument<'a>(alloc: Global) -> Result<Arg<'a>, AllocError> {
+    Arg::new(alloc, "PATH")
+        .help("The folder to deposit, 1 to 400 bytes, as the site names it")
+        .conflicts_with("deposits")
 }

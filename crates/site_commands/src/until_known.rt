@@ -9,7 +9,7 @@ ghost use Rattle.site_commands.specs.inner.Repeated.{AreQuestions, IsLastReply, 
 ghost use Rattle.site_commands.specs.inner.Written.{outcome_in};
 
 use crate::client::{answer_of, write_reply};
-use crate::exchange::{PortUse, ask, datagram};
+use crate::exchange::{ask_again, datagram};
 use crate::reply::{ClientReply, Wanted};
 use crate::request::Request;
 use dgram::{DepositAnswer, FolderPath, QueryAnswer};
@@ -26,13 +26,13 @@ const FIRST_PAUSE: u64 = 2;
 /// How many at most.
 const LONGEST_PAUSE: u64 = 1000;
 
-/// Asks a site for a slot's bag until it is known, for so many seconds at most, and writes the last
-/// answer that there was as one line: `reply .. known ..` with status 0, any other with status 1.
-/// With a path the folder is deposited first, and again where the site then knows nothing of it. A
-/// deposit that is refused ends it at once. After each question it pauses, first for 2 ms, then for
-/// twice as long each time, and for a second at most. From the tenth question on it asks a site to
-/// recover the slot after each: first the same site, and then the others in turn. Where memory runs
-/// out the line is `memory`, with status 1.
+/// Asks a site for a slot's bag until it is known, once at least and for so many seconds at most,
+/// and writes the last answer that there was as one line: `reply .. known ..` with status 0, any
+/// other with status 1. With a path the folder is deposited first, and again where the site then
+/// knows nothing of it. A deposit that is refused ends it at once. After each question it pauses,
+/// first for 2 ms, then for twice as long each time, and for a second at most. From the tenth
+/// question on it asks a site to recover the slot after each: first the same site, and then the
+/// others in turn. Where memory runs out the line is `memory`, with status 1.
 pub fn send_until_known<P: Port, C: Clock, W: Write>(
     alloc: Global,
     clock: &C,
@@ -111,15 +111,12 @@ fn last_reply<P: Port, C: Clock>(
         → IsLastReply (question_of request.now) path
         (P.traffic port.old) (P.traffic port.new) result }
 {
-    let Ok(pauses) = Pauses::new(clock, seconds) else {
-        return Ok(None);
-    };
-    let mut pauses = pauses;
+    let mut pauses = Pauses::new(clock, seconds);
     let mut last = None;
     let mut bytes = questions.first();
     let mut question = request.at(request.asked);
-    for _ in 0..u32::MAX {
-        let reply = ask(alloc, port, PortUse::Used, &question, wanted, bytes)?;
+    for _count in 0..u32::MAX {
+        let reply = ask_again(alloc, port, &question, wanted, bytes)?;
         last = or(reply, last);
         if ends(&reply) || !pauses.pause(clock) {
             return Ok(last);
@@ -221,23 +218,25 @@ impl Questions {
 /// The pauses between questions, and when they end.
 #[derive(Drop)]
 struct Pauses {
-    start: Instant,
+    /// When the first question was asked, if that could be read.
+    start: Option<Instant>,
     most: Duration,
     millis: u64,
 }
 
 impl Pauses {
-    fn new<C: Clock>(clock: &C, seconds: u32) -> std::io::Result<Pauses> {
-        Ok(Pauses {
-            start: Instant::now(clock)?,
+    fn new<C: Clock>(clock: &C, seconds: u32) -> Pauses {
+        Pauses {
+            start: Instant::now(clock).ok(),
             most: Duration::from_secs(u64::from(seconds)),
             millis: FIRST_PAUSE,
-        })
+        }
     }
 
-    // Pauses, and says whether there is time for one more question.
+    // Pauses, and says whether there is time for one more question. There is none if the time can't
+    // be read.
     fn pause<C: Clock>(&mut self, clock: &C) -> bool {
-        let Ok(elapsed) = self.start.elapsed(clock) else {
+        let Some(Ok(elapsed)) = self.start.map(|start| start.elapsed(clock)) else {
             return false;
         };
         let left = self.most.saturating_sub(elapsed);

@@ -1,7 +1,7 @@
 -- How far a site was asked, and what was written of its answers.
 use Rattle.std.specs.Prelude.{◌≡◌, ◌≢◌, ◌⊎◌, ◌≤◌, ◌<◌, ◌-◌, ℕ, Bool, true, false}
 use Rattle.std.specs.Prelude.{if◌then◌else◌, List, [], ◌∷◌, ◌++◌, length, take}
-use Rattle.std.specs.Prelude.{Option, Some, None, Result, Ok, Err, IfOk}
+use Rattle.std.specs.Prelude.{Option, Some, None, Result, Ok, Err}
 use Rattle.std.specs.Io.KnownBytes.{Appends}
 use Rattle.std.specs.declared.alloc.AllocError.{AllocError}
 use Rattle.known_bags.specs.declared.known_bag.KnownBag.{KnownBag}
@@ -12,7 +12,8 @@ use Rattle.site_commands.specs.Replies.{first_reply}
 use Rattle.catch_up.specs.declared.rounds.AskFault.{AskFault}
 use Rattle.catch_up.specs.declared.rounds.AskFault.TheVariants.{Memory, Output}
 use Rattle.catch_up.specs.declared.rounds.Target.{Target}
-use Rattle.catch_up.specs.Rounds.{Answer, question, bag_in, AsksFor, IsOneMore, open_of, AreAnswers}
+use Rattle.catch_up.specs.Rounds.{Answer, question, bag_in, HasAskedFor, AsksFor, IsOneMore}
+use Rattle.catch_up.specs.Rounds.{open_of, AreAnswers}
 use Rattle.catch_up.specs.Rounds.{answer_lines, is_same, same_in, left_of, AreRounds}
 use Rattle.catch_up.specs.Rounds.{AreWhole, round_lines, same_after, left_after, last_round}
 use Rattle.catch_up.specs.Times.{Beat, Read, Paused, Beats, is_over, pause_after, ReadsOver}
@@ -28,14 +29,14 @@ abbrev pub OnlyAsked : Target → AskFault → List Move → Type 0
 OnlyAsked asked Memory others = IsOneMore asked others
 OnlyAsked asked Output others = others ≡ []
 
--- a site is asked once for a slot's bag
+-- a site is asked once for a slot's bag; or memory runs out
 abbrev pub IsAskedFor : Target → SlotName → (before after : Option (List Move))
     → Result Answer AllocError → Type 0
-IsAskedFor asked slot before after result =
-    (moves : List Move) × Grows before after moves
-    × AsksFor asked slot moves
-    × IfOk result (λ answer.
-    answer ≡ bag_in (first_reply (question asked slot) wanted.ToQuery moves))
+IsAskedFor asked slot before after (Ok answer) =
+    (moves : List Move) × Grows before after moves × HasAskedFor asked slot moves
+    × (answer ≡ bag_in (first_reply (question asked slot) wanted.ToQuery moves))
+IsAskedFor asked slot before after (Err fault) =
+    (moves : List Move) × Grows before after moves × AsksFor asked slot moves
 
 -- ---- one round
 

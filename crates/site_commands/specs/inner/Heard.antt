@@ -1,15 +1,14 @@
 -- What a client's port takes in.
-use Rattle.std.specs.Prelude.{◌≡◌, ⊤, ℕ, List, [], ◌∷◌, Option, Some, None, Result, Ok, Err, IfOk}
+use Rattle.std.specs.Prelude.{◌≡◌, ⊤, ℕ, Bool, List, [], ◌∷◌, Option, Some, None, Result}
+use Rattle.std.specs.Prelude.{Ok, Err, IfOk}
 use Rattle.std.specs.declared.alloc.AllocError.{AllocError}
-use Rattle.udp_site.specs.declared.port_fault.PortFault.{PortFault}
-use Rattle.udp_site.specs.declared.port_fault.PortFault.TheVariants as faults
 use Rattle.udp_site.specs.Traffic.{Taken, Nothing, From, Post, Move, Took, Failed, Handed, Grows}
 use Rattle.dgram.specs.declared.answers.QueryAnswer.{QueryAnswer}
 use Rattle.site_commands.specs.declared.reply.ClientReply.{ClientReply}
 use Rattle.site_commands.specs.declared.reply.ClientReply.TheVariants.{ToDeposit, ToQuery}
 use Rattle.site_commands.specs.declared.reply.Wanted.{Wanted}
 use Rattle.site_commands.specs.Replies.{Question, first_reply}
-use Rattle.site_commands.specs.Exchanges.{OnlyTakes, Asks}
+use Rattle.site_commands.specs.Exchanges.{OnlyTakes, Asks, handed_if}
 use Rattle.site_commands.specs.Recoveries.{recovery_of}
 
 -- no datagram is taken in or handed out
@@ -31,16 +30,16 @@ TakesOne before after (Some datagram) =
     Grows before after (Took (From datagram.0 datagram.1) ∷ [])
 TakesOne before after None = (moves : List Move) × Grows before after moves × BringsNone moves
 
--- a datagram is handed out, if there is one
-abbrev pub handed_if : Option Post → List Move
-handed_if None = []
-handed_if (Some post) = Handed post ∷ []
+-- a datagram is handed out, unless there is no memory for it
+abbrev pub IsTaken : (before after : Option (List Move)) → Post → Result Bool AllocError → Type 0
+IsTaken before after post (Ok took) = Grows before after (Handed post ∷ [])
+IsTaken before after post (Err fault) = Grows before after []
 
 -- a Recover is handed out, if it is time for one, and there is memory for it
 abbrev pub IsAskedToRecover : Question → (before after : Option (List Move))
-    → Result (Unit {0}) PortFault → Type 0
-IsAskedToRecover q before after (Err faults.Memory) = Grows before after []
-IsAskedToRecover q before after result = Grows before after (handed_if (recovery_of q))
+    → Result Bool AllocError → Type 0
+IsAskedToRecover q before after (Ok took) = Grows before after (handed_if (recovery_of q))
+IsAskedToRecover q before after (Err fault) = Grows before after []
 
 -- nothing is taken in
 abbrev pub OnlyHands : List Move → Type 0
@@ -49,11 +48,11 @@ OnlyHands (Took taken ∷ moves) = ⊥
 OnlyHands (Failed ∷ moves) = ⊥
 OnlyHands (Handed post ∷ moves) = OnlyHands moves
 
--- A question is handed out, and after it a Recover, if it is time for one. Where that fails, nothing
--- is taken in.
+-- A question is handed out, and after it a Recover, if it is time for one; or memory runs out.
+-- Nothing is taken in.
 abbrev pub IsHandedOut : Question → List ℕ → (before after : Option (List Move))
-    → Result (Unit {0}) PortFault → Type 0
-IsHandedOut q bytes before after (Ok done) =
+    → Result Bool AllocError → Type 0
+IsHandedOut q bytes before after (Ok took) =
     Grows before after (Handed (q.target, bytes) ∷ handed_if (recovery_of q))
 IsHandedOut q bytes before after (Err fault) =
     (moves : List Move) × Grows before after moves

@@ -1,5 +1,5 @@
 -- The questions of a client that asks again and again.
-use Rattle.std.specs.Prelude.{◌≡◌, ℕ, List, Option, Some, None, Result}
+use Rattle.std.specs.Prelude.{◌≡◌, ◌≢◌, ℕ, List, [], Option, Some, None, Result}
 use Rattle.std.specs.Prelude.{Ok, Err}
 use Rattle.std.specs.Option.{option_map}
 use Rattle.std.specs.declared.alloc.AllocError.{AllocError}
@@ -24,7 +24,7 @@ abbrev pub IsLastReply : Question → (path : Option (List ℕ)) → (before aft
     → Result (Option ClientReply) AllocError → Type 0
 IsLastReply q path before after (Ok last) =
     (replies : List (Option ClientReply)) × (moves : List Move) × Grows before after moves
-    × AreReplies q path path replies moves × (last ≡ last_of replies)
+    × AreReplies q path path replies moves × (replies ≢ []) × (last ≡ last_of replies)
 IsLastReply q path before after (Err fault) = IsBrokenOff q path before after
 
 -- and this is what it says
@@ -32,6 +32,6 @@ abbrev pub IsLastAnswer : Question → (path : Option (List ℕ))
     → (before after : Option (List Move)) → Result (Option ProgramOutput) AllocError → Type 0
 IsLastAnswer q path before after (Ok answer) =
     (replies : List (Option ClientReply)) × (moves : List Move) × Grows before after moves
-    × AreReplies q path path replies moves
+    × AreReplies q path path replies moves × (replies ≢ [])
     × (outcome_if answer ≡ until_outcome q (last_of replies))
 IsLastAnswer q path before after (Err fault) = IsBrokenOff q path before after

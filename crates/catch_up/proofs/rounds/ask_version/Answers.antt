@@ -14,7 +14,7 @@ returns-in_err-bag-clause-asked g c =
     c.from_residual.result Memory c.from_residual.ensures.1
     (no_answer c.args.asked.now c.args.version.now (g.P.Port.traffic c.args.port.now)
     (g.P.Port.traffic c.known_bag.new.port) (g.W.CountedWrite.contents c.args.output.now)
-    c.known_bag.result c.known_bag.ensures)
+    c.in_err-bag.field-0.0 c.in_err-bag.ensures)
 
 pub returns-in_default-clause-asked : goal.returns-in_default-clause-asked
 returns-in_default-clause-asked g c =

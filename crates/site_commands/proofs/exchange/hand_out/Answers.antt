@@ -1,16 +1,31 @@
 use Rattle.site_commands.specs.Replies.{question_of}
-use Rattle.site_commands.proofs.Heard.{hands_both, hands_question}
+use Rattle.site_commands.proofs.Heard.{hands_both, hands_question, hands_nothing}
 use Rattle.site_commands.proofs.exchange.hand_out.Goals as goal
 
-pub returns : goal.returns
-returns g c =
+pub returns-then-is_taken : goal.returns-then-is_taken
+returns-then-is_taken g c =
     hands_both (question_of c.args.request.now) c.args.bytes.now
-    (g.P.Port.traffic c.args.port.now) (g.P.Port.traffic c.send.new.self)
-    (g.P.Port.traffic c.ask_to_recover.new.port) c.in_ok-send.ensures.handed
-    c.ask_to_recover.result c.ask_to_recover.ensures
+    (g.P.Port.traffic c.args.port.now) (g.P.Port.traffic c.hand.new.port)
+    (g.P.Port.traffic c.ask_to_recover.new.port) c.in_ok-is_taken.ensures
+    c.in_ok-is_recovery_taken.ensures
 
-pub returns-in_err-send : goal.returns-in_err-send
-returns-in_err-send g c =
+pub returns-else-is_taken : goal.returns-else-is_taken
+returns-else-is_taken g c =
+    hands_both (question_of c.args.request.now) c.args.bytes.now
+    (g.P.Port.traffic c.args.port.now) (g.P.Port.traffic c.hand.new.port)
+    (g.P.Port.traffic c.ask_to_recover.new.port) c.in_ok-is_taken.ensures
+    c.in_ok-is_recovery_taken.ensures
+
+pub returns-in_err-is_taken : goal.returns-in_err-is_taken
+returns-in_err-is_taken g c =
+    hands_nothing (question_of c.args.request.now) c.args.bytes.now
+    (g.P.Port.traffic c.args.port.now) (g.P.Port.traffic c.hand.new.port)
+    c.in_err-is_taken.ensures c.from_residual.result c.from_residual.ensures.0
+
+pub returns-in_err-is_recovery_taken : goal.returns-in_err-is_recovery_taken
+returns-in_err-is_recovery_taken g c =
     hands_question (question_of c.args.request.now) c.args.bytes.now
-    (g.P.Port.traffic c.args.port.now) (g.P.Port.traffic c.send.new.self) c.in_err-send.field-0.0
-    c.in_err-send.ensures.handed c.from_residual.result c.from_residual.ensures.1
+    (g.P.Port.traffic c.args.port.now) (g.P.Port.traffic c.hand.new.port)
+    (g.P.Port.traffic c.ask_to_recover.new.port) c.in_ok-is_taken.ensures
+    c.in_err-is_recovery_taken.ensures c.from_residual-in_err-is_recovery_taken.result
+    c.from_residual-in_err-is_recovery_taken.ensures.0

@@ -6,9 +6,9 @@ use Rattle.site_commands.proofs.Repeated.{SoFar}
 use Rattle.site_commands.proofs.until_known.last_reply.Given as goal
 
 -- the replies so far, and the next question
-abbrev pub invariant-loop : goal.invariant-loop
-invariant-loop g l =
+abbrev pub invariant-loop-count : goal.invariant-loop-count
+invariant-loop-count g l =
     (path : Option (List ℕ)) → l.wanted ≡ wanted_until path
     → AreQuestions (question_of l.request) path l.questions
     → SoFar (question_of l.request) path (g.P.Port.traffic l.fn.port) (g.P.Port.traffic l.port)
-    l.last (question_of l.question) l.bytes
+    l._count l.last (question_of l.question) l.bytes
