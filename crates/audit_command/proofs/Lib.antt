@@ -5,3 +5,4 @@ pub mod SplitRecords
 pub mod TakenBytes
 pub mod WrittenAnswers
 pub mod Conflicts
+pub mod Mentions

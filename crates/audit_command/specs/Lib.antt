@@ -1,7 +1,7 @@
 -- Read in this order: Files (what reading gives), CellReadings (what each cell is worth), Versions
 -- (what is found of each version), Lines (the text of both), Audits (what the command answers),
 -- Conflicts (what it says of two bags of one version).
--- Words has what is said of a cell that isn't read.
+-- Words has what is said of a cell that isn't read, Mentions of one that names a bag of a conflict.
 -- inner/ is for private contracts and proofs.
 pub mod Files
 pub mod CellReadings
@@ -10,4 +10,5 @@ pub mod Lines
 pub mod Audits
 pub mod Conflicts
 pub mod Words
+pub mod Mentions
 pub mod inner

@@ -8,7 +8,7 @@ use addresses::Address;
 use counted_writes::CountedWriter;
 use file_words::SpokenLines;
 use json_lines::JsonLines;
-use known_bags::{KnownBag, push_source, write_fault};
+use known_bags::{DiskSources, KnownBag, push_sources, write_fault};
 use outcomes::ProgramFault;
 use site_commands::{
     Stop, address_of, addresses_of, client_socket, keys_for, members_at, write_stop,
@@ -25,11 +25,9 @@ pub fn catch_up_site(rt: &HostRuntime, task: &CatchUpTask<'_>) -> Result<u8, Pro
     let output = JsonLines::new(rt.alloc(), task.json, io::writer(rt));
     let output = SpokenLines::new(rt.alloc(), speaker, output);
     let mut versions = Vec::new(rt.alloc());
-    for path in &task.files {
-        match push_source(rt, &mut versions, path) {
-            Ok(()) => {}
-            Err(fault) => return write_fault(rt.alloc(), &mut CountedWriter::new(output), fault),
-        }
+    match push_sources(rt.alloc(), &DiskSources { rt }, &mut versions, &task.files) {
+        Ok(()) => {}
+        Err(fault) => return write_fault(rt.alloc(), &mut CountedWriter::new(output), fault),
     }
     match asked_by(rt, task) {
         Ok(sites) => ask_all(rt, task, sites, &mut versions, output),

@@ -4,7 +4,7 @@
 use crate::arguments::CatchUpTask;
 use code_words::{meaning_of_line, push_name};
 use file_words::{LineSpeaker, push_file_words, say_text};
-use known_bags::push_source;
+use known_bags::{DiskSources, push_source};
 use std::alloc::AllocError;
 
 /// What says the lines of versions.
@@ -56,7 +56,8 @@ impl<'a> VersionSpeaker<'a> {
             return Ok(());
         }
         for path in self.files {
-            if push_source(self.rt, &mut Vec::new(self.rt.alloc()), path).is_err() {
+            let bags = &mut Vec::new(self.rt.alloc());
+            if push_source(self.rt.alloc(), &DiskSources { rt: self.rt }, bags, path).is_err() {
                 return push_file_words(self.rt, text, path, line);
             }
         }

@@ -3,3 +3,4 @@ pub mod Meanings
 pub mod Codes
 pub mod Rows
 pub mod Lines
+pub mod Tables

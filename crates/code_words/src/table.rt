@@ -1,5 +1,9 @@
 //! The table of all codes, as a text.
 
+ghost use Rattle.std.specs.Prelude.{◌≡◌, ◌++◌, OnOk, string_bytes};
+ghost use Rattle.std.specs.List.{flat_map};
+ghost use Rattle.code_words.specs.Tables.{part_text, row_text};
+
 use crate::bag_codes::{INVALID, UNREAD};
 use crate::cell_codes::{OPEN, STOPPED};
 use crate::meaning::Meaning;
@@ -53,15 +57,30 @@ pub fn push_table(text: &mut String) -> Result<(), AllocError> {
     push_part(text, REST, OTHERS.as_slice())
 }
 
-fn push_part(text: &mut String, heading: &str, meanings: &[Meaning]) -> Result<(), AllocError> {
+// The codes of a kind, below their heading.
+fn push_part(text: &mut String, heading: &str, meanings: &[Meaning]) -> Result<(), AllocError>
+    ensures { OnOk result (string_bytes text.new ≡ string_bytes text.old
+        ++ part_text heading.now meanings.now) }
+{
     text.push_str(heading)?;
+    push_rows(text, meanings)
+}
+
+fn push_rows(text: &mut String, meanings: &[Meaning]) -> Result<(), AllocError>
+    ensures { OnOk result
+        (string_bytes text.new ≡ string_bytes text.old ++ flat_map row_text meanings.now) }
+{
     for meaning in meanings {
         push_row(text, meaning)?;
     }
     Ok(())
 }
 
-fn push_row(text: &mut String, meaning: &Meaning) -> Result<(), AllocError> {
+// The lines of a code.
+#[tactic(auto, unfolding(crate::specs::Tables::row_text), using(std::proofs::Common::append_assoc))]
+fn push_row(text: &mut String, meaning: &Meaning) -> Result<(), AllocError>
+    ensures { OnOk result (string_bytes text.new ≡ string_bytes text.old ++ row_text meaning.now) }
+{
     let code = meaning.code;
     let words = meaning.words;
     writeln!(text, "  {code:<23} {words}")?;

@@ -1,3 +1,4 @@
 pub mod Lists
 pub mod Cells
 pub mod Damage
+pub mod Files

@@ -1,6 +1,7 @@
 -- The bags that the bytes of a source know: of a cell, or of a list of its versions.
-use Rattle.std.specs.Prelude.{◌≡◌, ◌≢◌, ◌⊎◌, ◌++◌, ℕ, ⊤, Bool, true, false, List, [], take}
-use Rattle.std.specs.Prelude.{filter_map, codes, Option, Result, Ok, Err, IsErrAnd}
+use Rattle.std.specs.Prelude.{◌≡◌, ◌≢◌, ◌⊎◌, ◌++◌, ℕ, ⊤, Bool, true, false, List, [], ◌∷◌, take}
+use Rattle.std.specs.Prelude.{filter_map, codes, Option, Some, None, Result, Ok, Err, IsOk, IsErr}
+use Rattle.std.specs.Prelude.{IsErrAnd}
 use Rattle.std.specs.Option.{option_map}
 use Rattle.std.specs.Str.{bytes_eq}
 use Rattle.std.specs.declared.io.ErrorKind.{ErrorKind}
@@ -84,9 +85,32 @@ IsUnread fault = (fault ≡ Unread) ⊎ (fault ≡ Memory)
 abbrev pub IsUnopened : ErrorKind → SourceFault → Type 0
 IsUnopened kind fault = (kind ≡ OutOfMemory → fault ≡ Memory) × (kind ≢ OutOfMemory → fault ≡ Unread)
 
+-- what the files of these paths have, where that is known; none inside where one can't be read
+abbrev pub Files : Type 0
+Files = List ℕ → Option (Option (List ℕ))
+
+-- what a file gives that can't be read: nothing, and why
+abbrev pub IsOfNoFile : (old new : List KnownBag) → Result (Unit {0}) SourceFault → Type 0
+IsOfNoFile old new result = (new ≡ old) × IsErrAnd result IsUnread
+
 -- A file has these bytes, whichever they are, and they are a source of what was appended, or none;
 -- or its bytes aren't available, and nothing was appended. No clause says which bytes a file has.
 abbrev pub IsOfSomeFile : (old new : List KnownBag) → Result (Unit {0}) SourceFault → Type 0
 IsOfSomeFile old new result =
-    ((bytes : List ℕ) × IsSourceOf bytes old new result)
-    ⊎ ((new ≡ old) × IsErrAnd result IsUnread)
+    ((bytes : List ℕ) × IsSourceOf bytes old new result) ⊎ IsOfNoFile old new result
+
+-- what a file gives: what its bytes know, where these are known
+abbrev pub IsOfFile : Option (Option (List ℕ)) → (old new : List KnownBag)
+    → Result (Unit {0}) SourceFault → Type 0
+IsOfFile (Some (Some bytes)) old new result = IsSourceOf bytes old new result
+IsOfFile (Some None) old new result = IsOfNoFile old new result
+IsOfFile None old new result = IsOfSomeFile old new result
+
+-- what the files of these paths give, one after the other, up to the first that is no source
+abbrev pub AreOfFiles : Files → (paths : List (List ℕ)) → (old new : List KnownBag)
+    → Result (Unit {0}) SourceFault → Type 0
+AreOfFiles files [] old new result = (new ≡ old) × IsOk result
+AreOfFiles files (path ∷ paths) old new result =
+    ((next : List KnownBag) × IsOfFile (files path) old next (Ok tt)
+    × AreOfFiles files paths next new result)
+    ⊎ (IsErr result × IsOfFile (files path) old new result)

@@ -1,9 +1,9 @@
 //! What is written of a source that can't be used.
 
-ghost use Rattle.std.specs.Prelude.{◌≡◌, ◌⊎◌, IfOk, IfErr, OnErr};
+ghost use Rattle.std.specs.Prelude.{◌≡◌, IfOk, IfErr, OnErr};
 ghost use Rattle.cell_device.specs.Calls.{HasCause};
-ghost use Rattle.outcomes.specs.Outcomes.{Writes, WritesPrefix, no_memory};
-ghost use Rattle.known_bags.specs.Faults.{fault_outcome};
+ghost use Rattle.outcomes.specs.Outcomes.{Writes, WritesPrefix};
+ghost use Rattle.known_bags.specs.Faults.{AnswersFault};
 ghost use Rattle.known_bags.specs.inner.Lines.{IsWritten};
 
 use crate::sources::SourceFault;
@@ -11,18 +11,17 @@ use counted_writes::{CountedWrite, write_output};
 use outcomes::ProgramFault;
 use std::alloc::{AllocError, Global};
 
-/// Writes why a source knows nothing, or that memory ran out; the status is 1.
+/// Writes why a source knows nothing, or, without memory for the number in that line, that memory
+/// ran out; the status is 1.
 pub fn write_fault<W: CountedWrite>(
     alloc: Global,
     output: &mut W,
     fault: SourceFault,
 ) -> Result<u8, ProgramFault>
-    ensures ok { IfOk result (λ status.
-        Writes (W.contents output.old) (W.contents output.new) status (fault_outcome fault)
-        ⊎ Writes (W.contents output.old) (W.contents output.new) status no_memory) }
-    ensures output { OnErr result (
-        WritesPrefix (W.contents output.old) (W.contents output.new) (fault_outcome fault)
-        ⊎ WritesPrefix (W.contents output.old) (W.contents output.new) no_memory) }
+    ensures ok { IfOk result (λ status. AnswersFault fault
+        (Writes (W.contents output.old) (W.contents output.new) status)) }
+    ensures output { OnErr result (AnswersFault fault
+        (WritesPrefix (W.contents output.old) (W.contents output.new))) }
     ensures fault { IfErr result (λ fault. fault ≡ ProgramFault.Output) }
     ensures cause { HasCause ProgramFault.Output (W.failures output.old) (W.failures output.new)
         result }

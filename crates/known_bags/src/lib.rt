@@ -3,11 +3,9 @@
 //!
 //! ```
 //! let mut versions = Vec::new(rt.alloc());
-//! for path in &task.files {
-//!     match push_source(rt, &mut versions, path) {
-//!         Ok(()) => {}
-//!         Err(fault) => return write_fault(rt.alloc(), &mut CountedWriter::new(output), fault),
-//!     }
+//! match push_sources(rt.alloc(), &DiskSources { rt }, &mut versions, &task.files) {
+//!     Ok(()) => {}
+//!     Err(fault) => return write_fault(rt.alloc(), &mut CountedWriter::new(output), fault),
 //! }
 //! ```
 #![tactic(auto)]
@@ -16,9 +14,11 @@ mod fault_lines;
 mod known_bag;
 mod known_lines;
 mod law;
+mod source_files;
 mod sources;
 
 pub use fault_lines::write_fault;
 pub use known_bag::KnownBag;
 pub use law::lists_of_damaged_cells_know_nothing;
-pub use sources::{SourceFault, push_known, push_source, source_bytes};
+pub use source_files::{DiskSources, SourceFiles};
+pub use sources::{SourceFault, push_known, push_source, push_sources};

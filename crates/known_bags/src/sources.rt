@@ -1,15 +1,16 @@
 //! The files that say what is known: cells, and lists of their versions.
 
-ghost use Rattle.std.specs.Prelude.{◌≡◌, ◌++◌, true, false, IfOk, IfErr, IfSome, IsErrAnd, OnOk};
+ghost use Rattle.std.specs.Prelude.{◌≡◌, ◌++◌, true, false, map, IfOk, IfErr, IfSome, IsErrAnd, OnOk};
 ghost use Rattle.std.specs.Option.{option_to_list};
 ghost use Rattle.std.specs.IoError.{error_kind};
 ghost use Rattle.known_bags.specs.Sources.{is_cell, known_by, known_of, IsSourceOf};
-ghost use Rattle.known_bags.specs.Sources.{IsUnread, IsUnopened, IsOfSomeFile};
+ghost use Rattle.known_bags.specs.Sources.{IsUnread, IsUnopened, IsOfFile, AreOfFiles};
 ghost use Rattle.known_bags.specs.inner.Sources.{end_of, AreOfContents};
 
 use crate::known_bag::KnownBag;
 use crate::known_lines::{ListFault, push_known_lines};
-use ledger::{Contents, Ending, LiveCell, headless_ending, read_contents};
+use crate::source_files::SourceFiles;
+use ledger::{Contents, Ending, headless_ending, read_contents};
 use outcomes::{ReadFault, read_all};
 use records::{Entry, Record};
 use std::alloc::{AllocError, Global};
@@ -27,16 +28,34 @@ pub enum SourceFault {
     Memory,
 }
 
+/// Appends the bags that the files of these paths know, in order, up to the first that is no
+/// source.
+pub fn push_sources<S: SourceFiles>(
+    alloc: Global,
+    files: &S,
+    bags: &mut Vec<KnownBag>,
+    paths: &[&str],
+) -> Result<(), SourceFault>
+    ensures { AreOfFiles (S.bytes_at files.now) (map (λ path. path.now) paths.now) bags.old.items
+        bags.new.items result }
+{
+    for path in paths {
+        push_source(alloc, files, bags, path)?;
+    }
+    Ok(())
+}
+
 /// Appends the bags that the file of this path knows: a cell, or a list that `ledger` printed.
-pub fn push_source(
-    rt: &HostRuntime,
+pub fn push_source<S: SourceFiles>(
+    alloc: Global,
+    files: &S,
     bags: &mut Vec<KnownBag>,
     path: &str,
 ) -> Result<(), SourceFault>
-    ensures { IsOfSomeFile bags.old.items bags.new.items result }
+    ensures { IsOfFile (S.bytes_at files.now path.now) bags.old.items bags.new.items result }
 {
-    let bytes = source_bytes(rt, path)?;
-    push_known(rt.alloc(), bags, bytes.as_slice())
+    let bytes = files.source_bytes(path)?;
+    push_known(alloc, bags, bytes.as_slice())
 }
 
 /// Appends the bags that these bytes know: a cell's, or those of a list that `ledger` printed.
@@ -135,17 +154,11 @@ fn push_record(alloc: Global, bags: &mut Vec<KnownBag>, kept: &Record) -> Result
     }
 }
 
-/// All bytes of the file of this path; `Unread` or `Memory` if it can't be read. What is neither a
-/// file nor a pipe that is open already is refused before it is opened: opening a pipe with a name
-/// would wait.
-pub fn source_bytes(rt: &HostRuntime, path: &str) -> Result<Vec<u8>, SourceFault>
-    ensures { IfErr result IsUnread }
-{
-    bytes_of(rt.alloc(), LiveCell::open(rt, path))
-}
-
-// All bytes of a source that was opened, or why it can't be read.
-fn bytes_of<R: Read + Drop>(alloc: Global, opened: io::Result<R>) -> Result<Vec<u8>, SourceFault>
+/// All bytes of a source that was opened, or why it can't be read.
+pub(crate) fn bytes_of<R: Read + Drop>(
+    alloc: Global,
+    opened: io::Result<R>,
+) -> Result<Vec<u8>, SourceFault>
     ensures bytes { IfOk opened (λ source. IfOk result (λ bytes.
         IfSome (R.remaining source) (λ all. bytes.items ≡ all))) }
     ensures unread { IfErr result IsUnread }

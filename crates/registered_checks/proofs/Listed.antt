@@ -7,10 +7,10 @@ use Rattle.known_bags.specs.declared.known_bag.KnownBag.{KnownBag}
 use Rattle.known_bags.specs.declared.sources.SourceFault.{SourceFault}
 use Rattle.known_bags.specs.declared.sources.SourceFault.TheVariants as faults
 use Rattle.known_bags.specs.Sources.{Knows, IsNoSource, IsSourceOf}
-use Rattle.outcomes.specs.Outcomes.{Writes, WritesPrefix, no_memory}
+use Rattle.outcomes.specs.Outcomes.{Writes, WritesPrefix}
 use Rattle.registered_checks.specs.Held.{Given}
 use Rattle.registered_checks.specs.Checks.{Ends, agree}
-use Rattle.known_bags.specs.Faults.{fault_outcome}
+use Rattle.known_bags.specs.Faults.{AnswersFault}
 use Rattle.registered_checks.specs.Lists.{AnswersTo, AnswersFirst}
 
 -- the bags that a source knows are the held ones where the status is 0
@@ -35,12 +35,12 @@ module _ (source : List ℕ) (report : Report) (given : Option Given) (place : O
     (paths : List (List ℕ)) (fault : SourceFault) (is : IsNoSource source fault)
     (old new : Option (List ℕ)) where
   pub refused : (status : ℕ) (said : List ℕ)
-      → Writes old new status (fault_outcome fault) ⊎ Writes old new status no_memory
+      → AnswersFault fault (Writes old new status)
       → said ≡ [] → AnswersTo source report given place paths (Ends old new status said)
   refused status said (inl writes) none = inr (fault, is, (writes, none))
-  refused status said (inr writes) none = inr (faults.Memory, tt, (writes, none))
+  refused status said (inr (number, writes)) none = inr (faults.Memory, tt, (writes, none))
 
-  pub refused_at : WritesPrefix old new (fault_outcome fault) ⊎ WritesPrefix old new no_memory
+  pub refused_at : AnswersFault fault (WritesPrefix old new)
       → AnswersFirst source report given place paths (WritesPrefix old new)
   refused_at (inl part) = inr (fault, is, part)
-  refused_at (inr part) = inr (faults.Memory, tt, part)
+  refused_at (inr (number, part)) = inr (faults.Memory, tt, part)

@@ -3,7 +3,7 @@ use Rattle.std.specs.Prelude.{◌⊎◌, ℕ, List, [], Option, IfSome, Result, 
 use Rattle.folder_checks.specs.declared.report.Report.{Report}
 use Rattle.known_bags.specs.declared.known_bag.KnownBag.{KnownBag}
 use Rattle.known_bags.specs.declared.sources.SourceFault.{SourceFault}
-use Rattle.known_bags.specs.Faults.{fault_outcome}
+use Rattle.known_bags.specs.Faults.{fault_outcome, AnswersFault}
 use Rattle.known_bags.specs.Sources.{Knows, IsNoSource}
 use Rattle.outcomes.specs.Outcomes.{Outcome, no_memory}
 use Rattle.registered_checks.specs.Held.{Given}
@@ -27,9 +27,10 @@ AnswersFirst source report given place paths P =
     ⊎ ((fault : SourceFault) × IsNoSource source fault × P (fault_outcome fault))
 
 -- A source was read, and there are folders: the first of these. Else no folder is checked, and the
--- second holds of what is written: why the source couldn't be read, or that memory ran out.
+-- second holds of what is written: why the source couldn't be read, or that there was no memory for
+-- the folders.
 abbrev pub WhereOpened : {S F E : Type 0} → Result S SourceFault → Result F E
     → (S → F → Type 0) → (Outcome → Type 0) → Type 0
 WhereOpened (Ok source) (Ok folders) P Q = P source folders
 WhereOpened (Ok source) (Err e) P Q = Q no_memory
-WhereOpened (Err fault) folders P Q = Q (fault_outcome fault) ⊎ Q no_memory
+WhereOpened (Err fault) folders P Q = AnswersFault fault Q

@@ -5,7 +5,7 @@ ghost use Rattle.std.specs.Prelude.{◌≡◌, IfErr};
 use crate::source_checks::check_source_on;
 use counted_writes::CountedWriter;
 use folder_checks::{CheckTask, spoken_folders, watched_folders};
-use known_bags::source_bytes;
+use known_bags::{DiskSources, SourceFiles};
 use outcomes::ProgramFault;
 use std::alloc::AllocError;
 use std::io;
@@ -20,7 +20,7 @@ pub fn check_registered(
 ) -> Result<u8, ProgramFault>
     ensures { IfErr result (λ fault. fault ≡ ProgramFault.Output) }
 {
-    let source = source_bytes(rt, list);
+    let source = DiskSources { rt }.source_bytes(list);
     let folders = match watched_folders(rt, task) {
         Ok(folders) => Ok(spoken_folders(rt, task, folders)),
         Err(AllocError) => Err(AllocError),

@@ -28,7 +28,7 @@ pub(crate) struct NotedFolders<F: Folders> {
 }
 
 impl<F: Folders> NotedFolders<F> {
-    ghost use Rattle.std.specs.Prelude.{IfSome};
+    ghost use Rattle.std.specs.Prelude.{◌≢◌, ◌⊎◌, true, IfSome, IfNone};
 
     /// These folders; none was read yet.
     #[tactic(auto, using(crate::proofs::Noted::none_held))]
@@ -47,8 +47,10 @@ impl<F: Folders> NotedFolders<F> {
     /// The bags that the folders of these paths hold, in order; `None` if memory ran out. This
     /// checks that these folders were read: the contract of a check doesn't say which it reads.
     pub(crate) fn held(&self, paths: &[&str]) -> Option<&[HeldBag]>
-        ensures { IfSome result (λ held. ForSome (F.gives self.now.folders) (λ gives.
+        ensures held { IfSome result (λ held. ForSome (F.gives self.now.folders) (λ gives.
             AreHeld gives (map (λ path. path.now) paths.now) held.now)) }
+        ensures none { IfNone result ((self.now.lacks_one ≡ true)
+            ⊎ (map string_bytes self.now.paths.items ≢ map (λ path. path.now) paths.now)) }
     {
         if self.lacks_one || !are_paths(self.paths.as_slice(), paths) {
             return None;

@@ -1,8 +1,7 @@
 //! What is noted of folders that are read: their paths, and the bags that they hold.
 
-ghost use Rattle.std.specs.Prelude.{◌≡◌, ◌≢◌, ◌++◌, ◌∷◌, [], Err, map, string_bytes, option_map};
-ghost use Rattle.std.specs.Prelude.{IfOk, OnOk};
-ghost use Rattle.std.specs.Bool.{OnTrue};
+ghost use Rattle.std.specs.Prelude.{◌≡◌, ◌≢◌, ◌↔◌, ◌++◌, ◌∷◌, [], Err, map, string_bytes};
+ghost use Rattle.std.specs.Prelude.{option_map, IfOk, OnOk, IsTrue};
 ghost use Rattle.std.specs.Option.{option_to_list};
 ghost use Rattle.bag_tree.specs.declared.fault.TreeFault.TheVariants.{Memory};
 ghost use Rattle.registered_checks.specs.Held.{bag_in, held_by};
@@ -74,7 +73,8 @@ fn bag_in(alloc: Global, read: &Result<Facts, TreeFault>) -> Result<Option<BagId
 
 /// Whether these are the noted paths, in order.
 pub(crate) fn are_paths(noted: &[String], paths: &[&str]) -> bool
-    ensures { OnTrue result (map string_bytes noted.now ≡ map (λ path. path.now) paths.now) }
+    ensures { IsTrue result
+        ↔ (map string_bytes noted.now ≡ map (λ path. path.now) paths.now) }
 {
     if noted.len() != paths.len() {
         return false;
