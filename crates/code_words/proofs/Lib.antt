@@ -1,2 +1,3 @@
 mod FirstRow
 mod OtherWords
+mod Tables

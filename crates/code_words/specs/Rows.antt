@@ -1,7 +1,5 @@
 -- The rows of the tables of codes.
 use Rattle.std.specs.Prelude.{ℕ, ◌-◌, ◌==◌, if◌then◌else◌, List, Option, None, slice_get}
-use Rattle.std.specs.Prelude.{option_map}
-use Rattle.std.specs.Option.{option_copied}
 use Rattle.code_words.specs.declared.meaning.Meaning.{Meaning}
 
 -- what is in the row of a number that counts from 1, if there is such a row

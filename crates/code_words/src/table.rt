@@ -1,8 +1,11 @@
 //! The table of all codes, as a text.
 
-ghost use Rattle.std.specs.Prelude.{◌≡◌, ◌++◌, OnOk, string_bytes};
+ghost use Rattle.std.specs.Prelude.{◌≡◌, ◌++◌, ◌∷◌, [], OnOk, map, string_bytes};
 ghost use Rattle.std.specs.List.{flat_map};
-ghost use Rattle.code_words.specs.Tables.{part_text, row_text};
+ghost use Rattle.code_words.specs.Codes.{invalid_codes, unread_codes, refused_codes, open_codes};
+ghost use Rattle.code_words.specs.Codes.{stopped_codes, skipped_codes, other_codes};
+ghost use Rattle.code_words.specs.Rows.{code_of};
+ghost use Rattle.code_words.specs.Tables.{row_text, AppendsPart, AppendsParts};
 
 use crate::bag_codes::{INVALID, UNREAD};
 use crate::cell_codes::{OPEN, STOPPED};
@@ -46,7 +49,12 @@ what else is printed of what went wrong
 
 /// Appends the table: below a heading for each kind its codes, each with a line of words, and one
 /// with what to do, if there is something to do.
-pub fn push_table(text: &mut String) -> Result<(), AllocError> {
+pub fn push_table(text: &mut String) -> Result<(), AllocError>
+    ensures { OnOk result (AppendsParts ((CHECKS.now, invalid_codes) ∷ (FOLDERS.now, unread_codes)
+        ∷ (REFUSALS.now, refused_codes) ∷ (CELLS.now, open_codes) ∷ (ENDINGS.now, stopped_codes)
+        ∷ (SKIPS.now, skipped_codes) ∷ (REST.now, other_codes) ∷ [])
+        (string_bytes text.old ++ HEADING.now) (string_bytes text.new)) }
+{
     text.push_str(HEADING)?;
     push_part(text, CHECKS, INVALID.as_slice())?;
     push_part(text, FOLDERS, UNREAD.as_slice())?;
@@ -59,8 +67,8 @@ pub fn push_table(text: &mut String) -> Result<(), AllocError> {
 
 // The codes of a kind, below their heading.
 fn push_part(text: &mut String, heading: &str, meanings: &[Meaning]) -> Result<(), AllocError>
-    ensures { OnOk result (string_bytes text.new ≡ string_bytes text.old
-        ++ part_text heading.now meanings.now) }
+    ensures { OnOk result (AppendsPart (heading.now, map code_of meanings.now)
+        (string_bytes text.old) (string_bytes text.new)) }
 {
     text.push_str(heading)?;
     push_rows(text, meanings)
