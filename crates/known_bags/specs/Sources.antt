@@ -74,6 +74,11 @@ abbrev pub IsSourceOf : List ℕ → (old new : List KnownBag) → Result (Unit 
 IsSourceOf bytes old new (Ok u) = (bags : List KnownBag) × Knows bytes bags × (new ≡ old ++ bags)
 IsSourceOf bytes old new (Err fault) = IsNoSource bytes fault
 
+-- the earlier bags stay, in their places
+pub record Keeps (old new : List KnownBag) : Type 0 where
+  pub more : List KnownBag
+  pub new_is : new ≡ old ++ more
+
 -- ---- files
 
 -- its bytes can't be had, or there was no memory for them

@@ -5,6 +5,7 @@ ghost use Rattle.std.specs.Option.{option_to_list};
 ghost use Rattle.known_bags.specs.declared.known_lines.ListFault.TheVariants.{Memory};
 ghost use Rattle.known_bags.specs.Lists.{known_in, bag_of, is_passed_over, known_by};
 ghost use Rattle.known_bags.specs.Lists.{is_line};
+ghost use Rattle.known_bags.specs.Sources.{Keeps};
 ghost use Rattle.known_bags.specs.inner.Lists.{IsListOf};
 
 use crate::known_bag::KnownBag;
@@ -30,12 +31,14 @@ impl From<AllocError> for ListFault {
 
 /// Appends the bags of the lines `known OBJ V HEX`. The other lines of a ledger don't say that a
 /// bag is known.
+#[tactic(auto, using(crate::proofs::Kept::keeping))]
 pub(crate) fn push_known_lines(
     alloc: Global,
     bags: &mut Vec<KnownBag>,
     text: &[u8],
 ) -> Result<(), ListFault>
-    ensures { IsListOf text.now bags.old.items bags.new.items result }
+    ensures list { IsListOf text.now bags.old.items bags.new.items result }
+    ensures kept { Keeps bags.old.items bags.new.items }
 {
     let mut rest = text;
     let mut number = 1;
@@ -50,10 +53,12 @@ pub(crate) fn push_known_lines(
 }
 
 // Appends the bag of a line, if it knows one, and gives whether it is a ledger's.
+#[tactic(auto, using(crate::proofs::Kept::keeping))]
 fn push_line(alloc: Global, bags: &mut Vec<KnownBag>, line: &[u8]) -> Result<bool, AllocError>
     ensures is { IfOk result (λ is. is ≡ is_line line.now) }
     ensures known { IfOk result (λ _. bags.new.items
         ≡ bags.old.items ++ option_to_list (known_by line.now)) }
+    ensures kept { Keeps bags.old.items bags.new.items }
 {
     let words = split_words(alloc, line)?;
     match known_in(alloc, words.as_slice())? {

@@ -3,7 +3,7 @@
 ghost use Rattle.std.specs.Prelude.{◌≡◌, ◌++◌, true, false, map, IfOk, IfErr, IfSome, IsErrAnd, OnOk};
 ghost use Rattle.std.specs.Option.{option_to_list};
 ghost use Rattle.std.specs.IoError.{error_kind};
-ghost use Rattle.known_bags.specs.Sources.{is_cell, known_by, known_of, IsSourceOf};
+ghost use Rattle.known_bags.specs.Sources.{is_cell, known_by, known_of, IsSourceOf, Keeps};
 ghost use Rattle.known_bags.specs.Sources.{IsUnread, IsUnopened, IsOfFile, AreOfFiles};
 ghost use Rattle.known_bags.specs.inner.Sources.{end_of, AreOfContents};
 
@@ -36,8 +36,9 @@ pub fn push_sources<S: SourceFiles>(
     bags: &mut Vec<KnownBag>,
     paths: &[&str],
 ) -> Result<(), SourceFault>
-    ensures { AreOfFiles (S.bytes_at files.now) (map (λ path. path.now) paths.now) bags.old.items
-        bags.new.items result }
+    ensures known { AreOfFiles (S.bytes_at files.now) (map (λ path. path.now) paths.now)
+        bags.old.items bags.new.items result }
+    ensures kept { Keeps bags.old.items bags.new.items }
 {
     for path in paths {
         push_source(alloc, files, bags, path)?;
@@ -46,13 +47,15 @@ pub fn push_sources<S: SourceFiles>(
 }
 
 /// Appends the bags that the file of this path knows: a cell, or a list that `ledger` printed.
+#[tactic(auto, using(crate::proofs::Kept::keeping))]
 pub fn push_source<S: SourceFiles>(
     alloc: Global,
     files: &S,
     bags: &mut Vec<KnownBag>,
     path: &str,
 ) -> Result<(), SourceFault>
-    ensures { IsOfFile (S.bytes_at files.now path.now) bags.old.items bags.new.items result }
+    ensures known { IsOfFile (S.bytes_at files.now path.now) bags.old.items bags.new.items result }
+    ensures kept { Keeps bags.old.items bags.new.items }
 {
     let bytes = files.source_bytes(path)?;
     push_known(alloc, bags, bytes.as_slice())
@@ -60,7 +63,8 @@ pub fn push_source<S: SourceFiles>(
 
 /// Appends the bags that these bytes know: a cell's, or those of a list that `ledger` printed.
 pub fn push_known(alloc: Global, bags: &mut Vec<KnownBag>, bytes: &[u8]) -> Result<(), SourceFault>
-    ensures { IsSourceOf bytes.now bags.old.items bags.new.items result }
+    ensures known { IsSourceOf bytes.now bags.old.items bags.new.items result }
+    ensures kept { Keeps bags.old.items bags.new.items }
 {
     if is_cell(bytes) {
         push_cell(alloc, bags, bytes)
@@ -77,9 +81,11 @@ fn is_cell(bytes: &[u8]) -> bool
 }
 
 // Appends the bags of a list.
+#[tactic(auto, using(crate::proofs::Kept::keeping))]
 fn push_list(alloc: Global, bags: &mut Vec<KnownBag>, bytes: &[u8]) -> Result<(), SourceFault>
-    ensures { is_cell bytes.now ≡ false
+    ensures known { is_cell bytes.now ≡ false
         → IsSourceOf bytes.now bags.old.items bags.new.items result }
+    ensures kept { Keeps bags.old.items bags.new.items }
 {
     match push_known_lines(alloc, bags, bytes) {
         Ok(()) => Ok(()),
@@ -89,9 +95,11 @@ fn push_list(alloc: Global, bags: &mut Vec<KnownBag>, bytes: &[u8]) -> Result<()
 }
 
 // Appends the bags of a cell, or of bytes that begin with no whole header of one.
+#[tactic(auto, using(crate::proofs::Kept::keeping))]
 fn push_cell(alloc: Global, bags: &mut Vec<KnownBag>, bytes: &[u8]) -> Result<(), SourceFault>
-    ensures { is_cell bytes.now ≡ true
+    ensures known { is_cell bytes.now ≡ true
         → IsSourceOf bytes.now bags.old.items bags.new.items result }
+    ensures kept { Keeps bags.old.items bags.new.items }
 {
     match read_contents(alloc, bytes) {
         Ok(Some(contents)) => push_contents(alloc, bags, &contents),
@@ -111,12 +119,14 @@ fn end_of(ending: Ending) -> Result<(), SourceFault>
 }
 
 // Appends the bags that a cell's records know, unless it is damaged.
+#[tactic(auto, using(crate::proofs::Kept::keeping))]
 fn push_contents(
     alloc: Global,
     bags: &mut Vec<KnownBag>,
     contents: &Contents,
 ) -> Result<(), SourceFault>
-    ensures { AreOfContents contents.now bags.old.items bags.new.items result }
+    ensures known { AreOfContents contents.now bags.old.items bags.new.items result }
+    ensures kept { Keeps bags.old.items bags.new.items }
 {
     end_of(contents.ending)?;
     match push_records(alloc, bags, &contents.records) {
@@ -132,7 +142,8 @@ fn push_records(
     bags: &mut Vec<KnownBag>,
     records: &[Record],
 ) -> Result<(), AllocError>
-    ensures { OnOk result (bags.new.items ≡ bags.old.items ++ known_of records.now) }
+    ensures known { OnOk result (bags.new.items ≡ bags.old.items ++ known_of records.now) }
+    ensures kept { Keeps bags.old.items bags.new.items }
 {
     for kept in records {
         push_record(alloc, bags, kept)?;
@@ -141,8 +152,11 @@ fn push_records(
 }
 
 // Appends the bag of a record, if it knows one.
+#[tactic(auto, using(crate::proofs::Kept::keeping))]
 fn push_record(alloc: Global, bags: &mut Vec<KnownBag>, kept: &Record) -> Result<(), AllocError>
-    ensures { OnOk result (bags.new.items ≡ bags.old.items ++ option_to_list (known_by kept.now)) }
+    ensures known { OnOk result
+        (bags.new.items ≡ bags.old.items ++ option_to_list (known_by kept.now)) }
+    ensures kept { Keeps bags.old.items bags.new.items }
 {
     match kept.body {
         Entry::Known(bag) => {
