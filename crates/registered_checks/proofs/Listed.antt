@@ -7,9 +7,9 @@ use Rattle.known_bags.specs.declared.known_bag.KnownBag.{KnownBag}
 use Rattle.known_bags.specs.declared.sources.SourceFault.{SourceFault}
 use Rattle.known_bags.specs.declared.sources.SourceFault.TheVariants as faults
 use Rattle.known_bags.specs.Sources.{Knows, IsNoSource, IsSourceOf}
-use Rattle.outcomes.specs.Outcomes.{Writes, WritesPrefix}
+use Rattle.outcomes.specs.Outcomes.{Outcome, Writes, WritesPrefix}
 use Rattle.registered_checks.specs.Held.{Given}
-use Rattle.registered_checks.specs.Checks.{Ends, agree}
+use Rattle.registered_checks.specs.Checks.{Ends, ComparesOn, agree}
 use Rattle.known_bags.specs.Faults.{AnswersFault}
 use Rattle.registered_checks.specs.Lists.{AnswersTo, AnswersFirst}
 
@@ -28,6 +28,21 @@ agreed_to (Ok it) status source given paths bags is agreed =
       is.0,
       is.1,
       subst (λ known. IfSome given (λ gives. IsTrue (agree gives paths known))) is.2 (agreed zero),
+    )
+
+-- a check against the bags that a source knows is one against the source
+pub answers_to : {T E : Type 0} (checked : Result T E) (P : T → Outcome → List ℕ → Type 0)
+    (source : List ℕ) (report : Report) (given : Option Given) (place : Option (List ℕ))
+    (paths : List (List ℕ)) (bags : List KnownBag) → IsSourceOf source [] bags (Ok tt)
+    → IfOk checked (λ it. IfSome given (λ gives. ComparesOn report gives place paths bags (P it)))
+    → IfOk checked (λ it. AnswersTo source report given place paths (P it))
+answers_to (Err e) P source report given place paths bags is compares = tt
+answers_to (Ok it) P source report given place paths bags is compares =
+    inl (
+      is.0,
+      is.1,
+      subst (λ known. IfSome given (λ gives. ComparesOn report gives place paths known (P it)))
+          is.2 compares,
     )
 
 -- a source knows nothing

@@ -43,3 +43,12 @@ same_here f h xs ys i x d text long within is text_is same =
     (text_is ∙ (ap f is
     ∙ (sym (get_or-map f xs i x (f x) (subst (λ n. i < n) (sym long) within))
     ∙ (ap (λ l. get_or l i (f x)) same ∙ get_or-map h ys i d (f x) within))))
+
+-- paths of which these aren't the same
+pub other_here : {X Y : Type 0} (f : X → List ℕ) (h : Y → List ℕ) (xs : List X) (ys : List Y)
+    (i : ℕ) (x : X) (d : Y) (text : List ℕ) → length xs ≡ length ys → i < length ys
+    → x ≡ get_or xs i x → text ≡ f x → not (bytes_eq text (h (get_or ys i d))) ≡ true
+    → map f xs ≡ map h ys → ⊥
+other_here f h xs ys i x d text long within is text_is other same =
+    let e : false ≡ true =
+    ap not (sym (same_here f h xs ys i x d text long within is text_is same)) ∙ other in cc e

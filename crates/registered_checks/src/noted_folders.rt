@@ -52,7 +52,10 @@ impl<F: Folders> NotedFolders<F> {
         ensures none { IfNone result ((self.now.lacks_one ≡ true)
             ⊎ (map string_bytes self.now.paths.items ≢ map (λ path. path.now) paths.now)) }
     {
-        if self.lacks_one || !are_paths(self.paths.as_slice(), paths) {
+        if self.lacks_one {
+            return None;
+        }
+        if !are_paths(self.paths.as_slice(), paths) {
             return None;
         }
         Some(self.held.as_slice())

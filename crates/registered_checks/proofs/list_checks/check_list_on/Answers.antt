@@ -1,6 +1,22 @@
 use Rattle.std.proofs.Common.{map, string_bytes, ap, ◌∙◌, ◌++◌}
-use Rattle.registered_checks.proofs.Listed.{agreed_to, refused, refused_at}
+use Rattle.registered_checks.specs.Checks.{Ends}
+use Rattle.registered_checks.proofs.Listed.{agreed_to, answers_to, refused, refused_at}
 use Rattle.registered_checks.proofs.list_checks.check_list_on.Goals as goal
+
+pub returns-in-Ok-clause-ok : goal.returns-in-Ok-clause-ok
+returns-in-Ok-clause-ok g c =
+    let found = c.in-Ok.ensures.known in
+    answers_to c.check_known_on.result
+    (λ checked. Ends (g.W.CountedWrite.contents c.args.output.now)
+    (g.W.CountedWrite.contents c.check_known_on.new.output) checked.answer.status
+    (string_bytes checked.answer.text)) c.args.source.now c.args.report
+    (g.F.Folders.gives c.args.folders) (g.F.Folders.fails_at c.args.folders)
+    (map (λ path. path.now) c.args.paths.now) c.as_slice.result.now (
+      found.0,
+      found.1,
+      c.as_slice.ensures.value ∙ found.2 ∙ ap (λ l. l ++ found.0) c.new-known.ensures.items,
+    )
+    c.check_known_on.ensures.ok
 
 pub returns-in-Ok-clause-zero : goal.returns-in-Ok-clause-zero
 returns-in-Ok-clause-zero g c =
