@@ -1,5 +1,9 @@
 //! The arguments of the command `audit`.
 
+ghost use Rattle.std.specs.Prelude.{◌≡◌, map, codes, IfOk};
+ghost use Rattle.clap.specs.Matches.{found_of};
+ghost use Rattle.audit_command.specs.Arguments.{values_of, IsTaskIn};
+
 use clap::{Arg, ArgAction, ArgMatches, Command};
 use json_lines::json_argument;
 use site_commands::members_argument;
@@ -65,15 +69,14 @@ pub struct AuditTask<'a> {
     pub words: bool,
 }
 
-/// What these arguments of the command ask for.
+/// What these arguments of the command ask for; `None` if they name no members.
 pub fn audit_task<'a>(
     alloc: Global,
     matches: &ArgMatches<'a>,
-) -> Result<Option<AuditTask<'a>>, AllocError> {
-    let mut cells = Vec::new(alloc);
-    if let Some(paths) = matches.get_strs("CELL") {
-        cells.extend_from_slice(paths)?;
-    }
+) -> Result<Option<AuditTask<'a>>, AllocError>
+    ensures { IfOk result (IsTaskIn (found_of matches.now)) }
+{
+    let cells = cells_of(alloc, matches)?;
     let json = matches.get_flag("json");
     let words = matches.get_flag("words");
     match matches.get_str("members") {
@@ -85,6 +88,18 @@ pub fn audit_task<'a>(
         })),
         None => Ok(None),
     }
+}
+
+// The paths of the cells.
+fn cells_of<'a>(alloc: Global, matches: &ArgMatches<'a>) -> Result<Vec<&'a str>, AllocError>
+    ensures { IfOk result (λ cells. map (λ path. path.now) cells.items
+        ≡ values_of (found_of matches.now) (codes "CELL")) }
+{
+    let mut cells = Vec::new(alloc);
+    if let Some(paths) = matches.get_strs("CELL") {
+        cells.extend_from_slice(paths)?;
+    }
+    Ok(cells)
 }
 
 /// The command, with its help.
