@@ -4,7 +4,7 @@ use Rattle.fed_types.specs.declared.bag_id.BagId.{BagId}
 use Rattle.register_law.specs.Registers.{Register, Open, Decided, Becomes}
 
 -- the bag that it is decided for, or else this one
-bag_or : BagId → Register → BagId
+abbrev bag_or : BagId → Register → BagId
 bag_or bag Open = bag
 bag_or bag (Decided decided) = decided
 
