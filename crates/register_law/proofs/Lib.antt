@@ -11,3 +11,4 @@ pub mod AskedDeposits
 pub mod DecidedOnce
 pub mod CarriedOn
 pub mod Overlapped
+pub mod RegisterExamples
