@@ -305,6 +305,11 @@ class Picture:
             same(f"{what}: column", int(label.get("x")), self.columns[event.site])
             same(f"{what}: colour", letter(label, "f"), self.labels.colour(event))
             same(f"{what}: side", ("l" in classes(label)), label.get("dx") == "-13")
+            # An arrow doesn't end among the words: one from the left has them on the right, and one
+            # from the right, as each to its sender, on the left.
+            if event.delivered:
+                is_left = event.delivered.sender >= event.delivered.to
+                same(f"{what}: away from its arrow", "l" in classes(label), is_left)
             row = int(label.get("y"))
             claim(last < row < self.bottom, f"{what}: row {row} below {last}")
             self.rows[place], last = row, row
