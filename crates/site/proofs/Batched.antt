@@ -1,7 +1,7 @@
 -- What a call of a site whose records wait leaves of its book.
 use Rattle.std.proofs.Common.{◌≡◌, inl, inr, true, false, List, [], ◌∷◌, ◌++◌, length, take}
 use Rattle.std.proofs.Common.{Option, Some, None, Result, Ok, Err, refl, sym, ap, subst, ◌∙◌, arith}
-use Rattle.std.proofs.Common.{length-append, append-nil}
+use Rattle.std.proofs.Common.{length-append, append-nil, append_assoc}
 use Rattle.std.proofs.lemmas.List.{take-append-le}
 use Rattle.std.specs.Prelude.{IsErrOf, IsSome}
 use Rattle.cell_device.specs.Devices.{Device}
@@ -31,12 +31,23 @@ pub record Grows {W : Type 0} (old new : OpenBook W) : Type 0 where
   pub opened : new.needs_opening ≡ old.needs_opening
   pub owner : new.owner ≡ old.owner
 
-grows_not : {W : Type 0} (old new : OpenBook W) → new ≡ old → Grows old new
+pub grows_not : {W : Type 0} (old new : OpenBook W) → new ≡ old → Grows old new
 grows_not old new is = record {
   more = [];
   records = ap (λ b. b.records) is ∙ sym (append-nil old.records);
   opened = ap (λ b. b.needs_opening) is;
   owner = ap (λ b. b.owner) is;
+}
+
+pub grows_twice : {W : Type 0} (a b c : OpenBook W) → Grows a b → Grows b c → Grows a c
+grows_twice a b c first second = record {
+  more = first.more ++ second.more;
+  records =
+      second.records
+      ∙ (ap (λ (l : List Record). l ++ second.more) first.records
+      ∙ append_assoc a.records first.more second.more);
+  opened = second.opened ∙ first.opened;
+  owner = second.owner ∙ first.owner;
 }
 
 committed : (old new : OpenBook Waiting) (r : Record) (result : Result (Unit {0}) CommitFault)
@@ -100,9 +111,17 @@ represents old new volatile e (Err faults.Device) answered =
 represents old new volatile e (Err faults.NeedsOpen) answered = absurd answered.gives
 represents old new volatile e (Err fault) answered = (volatile, answered.gives.1)
 
+-- so does the book of a site that answered a call
+pub grows_answered : (old new : OpenSite Waiting) (volatile : VolatileState) (e : Effect)
+    (result : Result Answer SiteFault) → IsAnswered no_cell old new volatile e result
+    → old.book.needs_opening ≡ false → Grows old.book new.book
+grows_answered old new volatile e result answered opened =
+    kept old.book new.book e.commits result opened
+    (needs_none no_cell old new volatile e result answered) answered.keeps
+
 module _ {C : Type 0} (device : C → Device) where
   -- so the cell still holds the first of its records
-  still_holds : {W : Type 0} (held : BatchCell C) (old new : OpenBook W) → Grows old new
+  pub still_holds : {W : Type 0} (held : BatchCell C) (old new : OpenBook W) → Grows old new
       → HoldsFirst device held old → HoldsFirst device held new
   still_holds held old new grows holds = record {
     within = omega (
@@ -125,8 +144,7 @@ module _ {C : Type 0} (device : C → Device) where
       → IsAnswered no_cell b.site new is.volatile.0 e result
       → IsBatch device (record { held = b.held; site = new; sealed = sealed })
   still_batch b is new sealed e result answered =
-      let grows = kept b.site.book new.book e.commits result is.waits
-      (needs_none no_cell b.site new is.volatile.0 e result answered) answered.keeps in
+      let grows = grows_answered b.site new is.volatile.0 e result answered is.waits in
       record {
         held = still_holds b.held b.site.book new.book grows is.held;
         waits = grows.opened ∙ is.waits;

@@ -7,7 +7,8 @@
 //! query, is sealed: no code can take it before `Batch::sync` writes all records that wait in one
 //! append, syncs once, and hands out all answers in order. If the device fails no answer is handed
 //! out, and the cell has to be opened again. If a call finds no memory, its answer says so; if
-//! there is none to seal an answer, the call is refused and changes nothing.
+//! there is none to seal an answer, the call is refused and changes nothing. `Site::part` gives the
+//! site and its cell apart, for a caller that keeps back by itself what the calls answer.
 //!
 //! ```
 //! match Site::open(alloc, cell, Owner { members, site }) {
@@ -27,6 +28,7 @@ mod fault;
 mod law;
 mod member_site;
 mod sealed_answer;
+mod waiting_site;
 
 pub use answer::{Answer, Line, Outgoing, Reply};
 pub use batch::Batch;
@@ -34,3 +36,4 @@ pub use fault::SiteFault;
 pub use law::a_site_reports_one_bag;
 pub use member_site::Site;
 pub use sealed_answer::SealedAnswer;
+pub use waiting_site::Synced;

@@ -20,7 +20,7 @@ impl<'a, P: Port> LoggedPort<'a, P> {
 
 impl<P: Port> Port for LoggedPort<'_, P> {
     ghost use Rattle.cell_device.specs.Calls.{HasCause};
-    ghost use Rattle.udp_site.specs.Traffic.{IsReceived, IsHanded};
+    ghost use Rattle.udp_site.specs.Traffic.{IsReceived, IsTakenIn, IsHanded};
 
     ghost traffic = { λ p. P.traffic p.port };
 
@@ -30,6 +30,12 @@ impl<P: Port> Port for LoggedPort<'_, P> {
         let turn = self.port.receive()?;
         self.log.came(&turn);
         Ok(turn)
+    }
+
+    fn try_receive(&mut self) -> Option<Turn> {
+        let turn = self.port.try_receive()?;
+        self.log.came(&turn);
+        Some(turn)
     }
 
     fn send(&mut self, to: Address, bytes: &[u8]) -> Result<(), PortFault> {

@@ -1,4 +1,5 @@
 pub mod Handed
+pub mod HeldMore
 pub mod Said
 pub mod Called
 pub mod Calls
@@ -24,3 +25,10 @@ pub mod RoundExamples
 pub mod RecoveryExamples
 pub mod SignExamples
 pub mod Signs
+pub mod WaitingTurns
+pub mod BatchOfTurns
+pub mod Told
+pub mod WholeBatch
+pub mod SyncedBatch
+pub mod Intake
+pub mod OneMoreBatch

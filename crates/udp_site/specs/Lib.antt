@@ -4,6 +4,7 @@ pub mod Replies
 pub mod Rounds
 pub mod Turns
 pub mod Served
+pub mod BatchTurns
 pub mod Faults
 pub mod Failures
 pub mod MemoryPorts

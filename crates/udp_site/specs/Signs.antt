@@ -2,8 +2,8 @@
 use Rattle.std.specs.Prelude.{ℕ, ◌+◌, ◌==◌, ◌&&◌, if◌then◌else◌, Bool, List, get_or}
 use Rattle.std.specs.Prelude.{Option, Some, None}
 use Rattle.dgram.specs.Encoding.{body_from}
-use Rattle.dgram.specs.Numbers.{PREPARE, ACCEPT, ACCEPTED, RECOVER, DEPOSIT_REPLY, REGISTERED}
-use Rattle.dgram.specs.Numbers.{QUERY_REPLY, IS_PENDING}
+use Rattle.dgram.specs.Numbers.{PREPARE, ACCEPT, ACCEPTED, DEPOSIT, RECOVER, DEPOSIT_REPLY}
+use Rattle.dgram.specs.Numbers.{REGISTERED, QUERY_REPLY, IS_PENDING}
 use Rattle.dgram.specs.declared.body.Body.{Body}
 use Rattle.dgram.specs.declared.body.Body.TheVariants as bodies
 use Rattle.dgram.specs.declared.message.Message.{Message}
@@ -51,7 +51,8 @@ KIND_PLACE = 3
 abbrev pub kind_byte : List ℕ → ℕ
 kind_byte bytes = get_or bytes KIND_PLACE 0
 
--- a datagram is a Prepare, an Accept, a vote or a client's request to recover, by its kind
+-- a datagram is a Prepare, an Accept, a vote, or a client's request to deposit a folder or to
+-- recover, by its kind
 abbrev pub is_prepare : List ℕ → Bool
 is_prepare bytes = kind_byte bytes == PREPARE
 
@@ -60,6 +61,9 @@ is_accept bytes = kind_byte bytes == ACCEPT
 
 abbrev pub is_vote : List ℕ → Bool
 is_vote bytes = kind_byte bytes == ACCEPTED
+
+abbrev pub is_deposit : List ℕ → Bool
+is_deposit bytes = kind_byte bytes == DEPOSIT
 
 abbrev pub is_recover : List ℕ → Bool
 is_recover bytes = kind_byte bytes == RECOVER

@@ -23,10 +23,13 @@ pace_of port = port.socket.pace
 abbrev pub recoveries_of : {R : Type 0} → UdpPort R → Recoveries
 recoveries_of port = port.socket.recoveries
 
+-- its pace, and what is early for it, are as before
+abbrev pub IsAsBefore : {R : Type 0} → (old new : UdpPort R) → Type 0
+IsAsBefore old new = (pace_of new ≡ pace_of old) × (recoveries_of new ≡ recoveries_of old)
+
 -- a receive changes its pace as the definitions say, and hands no Recover on too early
 abbrev pub IsPaced : {R : Type 0} → (old new : UdpPort R) → Result Turn PortFault → Type 0
 IsPaced old new (Ok turn) =
     TurnIsPaced old.federation old.own (pace_of old) (pace_of new) (recoveries_of old)
     (recoveries_of new) turn
-IsPaced old new (Err fault) =
-    (pace_of new ≡ pace_of old) × (recoveries_of new ≡ recoveries_of old)
+IsPaced old new (Err fault) = IsAsBefore old new

@@ -8,3 +8,6 @@ pub mod Others
 pub mod Arrivals
 pub mod Receipts
 pub mod Paced
+pub mod HeldPosts
+pub mod Batched
+pub mod OneBatch

@@ -83,8 +83,8 @@ fn note_refusal<F: Folders>(folders: &mut F, answer: &Result<Answer, SiteFault>)
     }
 }
 
-// Tells a client what became of its deposit, and gives back the slot.
-fn reply_to_deposit<P: Port>(
+/// Tells a client what became of its deposit, and gives back the slot.
+pub(crate) fn reply_to_deposit<P: Port>(
     alloc: Global,
     port: &mut P,
     federation: u64,

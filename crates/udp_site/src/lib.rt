@@ -9,9 +9,12 @@
 //! ```
 #![tactic(auto)]
 
+mod batch_intake;
+mod batch_loop;
 mod contacts;
 mod deposits;
 mod fault;
+mod held_port;
 mod idle_turns;
 mod memory_port;
 mod messages;
@@ -38,6 +41,7 @@ mod turn_step;
 mod udp_port;
 mod waits;
 
+pub use batch_loop::serve_batches;
 pub use fault::ServeFault;
 pub use memory_port::MemoryPort;
 pub use origins::Origins;

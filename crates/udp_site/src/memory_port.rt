@@ -29,13 +29,13 @@ pub struct MemoryPort {
 
 impl MemoryPort {
     ghost use Rattle.std.specs.Prelude.{◌≡◌, ◌≤◌, [], ◌∷◌, ◌++◌, map, Some, None, false};
-    ghost use Rattle.std.specs.Prelude.{OnOk, OnErr, IfOk};
+    ghost use Rattle.std.specs.Prelude.{OnOk, OnErr, IfOk, IfSome};
     ghost use Rattle.udp_site.specs.declared.port_fault.PortFault.TheVariants.{Device};
     ghost use Rattle.cell_device.specs.Calls.{one_more};
     ghost use Rattle.udp_site.specs.Traffic.{Nothing, From};
     ghost use Rattle.udp_site.specs.MemoryPorts.{coming_of, fails_of, traffic_of, failures_of};
     ghost use Rattle.udp_site.specs.MemoryPorts.{move_of, WillBring};
-    ghost use Rattle.udp_site.specs.inner.Arrivals.{IsNext};
+    ghost use Rattle.udp_site.specs.inner.Arrivals.{IsNext, IsNextDatagram};
 
     /// A port to which nothing comes, and whose sends don't fail.
     pub fn new(alloc: Global) -> MemoryPort
@@ -117,6 +117,20 @@ impl MemoryPort {
         }
     }
 
+    /// The datagram that comes next, twice, if one does.
+    fn next_datagram(&self) -> Result<Option<(Turn, Turn)>, AllocError>
+        ensures { IfOk result (λ next. IfSome next (IsNextDatagram (coming_of self.now))) }
+    {
+        match self.arrivals.front() {
+            Some(Arrival::Got(from, bytes)) => {
+                let turn = Turn::Got(*from, bytes.to_vec(self.alloc)?);
+                let same = Turn::Got(*from, bytes.to_vec(self.alloc)?);
+                Ok(Some((turn, same)))
+            }
+            Some(Arrival::Idle | Arrival::Failure) | None => Ok(None),
+        }
+    }
+
     /// Keeps what it did.
     fn keep(&mut self, done: PortMove) -> Result<(), AllocError>
         ensures kept { OnOk result
@@ -145,12 +159,12 @@ impl MemoryPort {
 }
 
 impl Port for MemoryPort {
-    ghost use Rattle.std.specs.Prelude.{◌≡◌, Some};
+    ghost use Rattle.std.specs.Prelude.{◌≡◌, ◌≤◌, Some, OnSome, IfNone};
     ghost use Rattle.cell_device.specs.Calls.{HasCause};
     ghost use Rattle.udp_site.specs.declared.port_fault.PortFault.TheVariants.{Device};
-    ghost use Rattle.udp_site.specs.Traffic.{IsReceived, IsHanded};
+    ghost use Rattle.udp_site.specs.Traffic.{IsReceived, IsTakenIn, IsHanded};
     ghost use Rattle.udp_site.specs.MemoryPorts.{coming_of, fails_of, traffic_of, failures_of};
-    ghost use Rattle.udp_site.specs.MemoryPorts.{Comes, FailsAs};
+    ghost use Rattle.udp_site.specs.MemoryPorts.{Comes, FailsAs, rest_of};
 
     ghost traffic = { λ port. Some (traffic_of port) };
 
@@ -173,6 +187,20 @@ impl Port for MemoryPort {
             self.arrivals.pop_front();
             Err(self.fail())
         }
+    }
+
+    // Where nothing is to come for a turn, or a receive is to fail, that is left to `receive`.
+    fn try_receive(&mut self) -> Option<Turn>
+        ensures taken { IsTakenIn (Some (traffic_of self.old)) (Some (traffic_of self.new)) result }
+        ensures later { failures_of self.old ≤ failures_of self.new }
+        ensures comes { OnSome result (coming_of self.new ≡ rest_of (coming_of self.old)) }
+        ensures stays { IfNone result (coming_of self.new ≡ coming_of self.old) }
+        ensures fails { fails_of self.new ≡ fails_of self.old }
+    {
+        let (turn, same) = self.next_datagram().ok()??;
+        self.keep(PortMove::Took(same)).ok()?;
+        self.arrivals.pop_front();
+        Some(turn)
     }
 
     fn send(&mut self, to: Address, bytes: &[u8]) -> Result<(), PortFault>

@@ -143,6 +143,22 @@ impl<R: Clock + Drop> PacedSocket<R> {
         }
     }
 
+    /// Takes a datagram that is there into the buffer, and waits for none. One that is passed over
+    /// is as none.
+    pub(crate) fn take_waiting(&self, buffer: &mut [u8]) -> io::Result<Option<Arrival>>
+        ensures { IfOk result
+            (λ got. IfSome got (IsTaken self.now.pace self.now.recoveries buffer.new)) }
+    {
+        let now = self.moment()?;
+        let Some((from, count)) = self.taken(buffer)? else {
+            return Ok(None);
+        };
+        if self.is_early(now, &buffer[..count]) {
+            return Ok(None);
+        }
+        Ok(Some(Arrival { from, count, now }))
+    }
+
     // Waits for a datagram, or until nothing is left of the waits.
     fn wait_for(&self, buffer: &mut [u8]) -> io::Result<End>
         ensures { IfOk result (EndsWait self.now.pace self.now.recoveries buffer.new) }

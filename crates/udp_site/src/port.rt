@@ -1,6 +1,6 @@
-ghost use Rattle.std.specs.Prelude.{ℕ, List, Option, None};
+ghost use Rattle.std.specs.Prelude.{◌≤◌, ℕ, List, Option, None};
 ghost use Rattle.cell_device.specs.Calls.{HasCause};
-ghost use Rattle.udp_site.specs.Traffic.{Move, IsReceived, IsHanded};
+ghost use Rattle.udp_site.specs.Traffic.{Move, IsReceived, IsTakenIn, IsHanded};
 ghost use Rattle.udp_site.specs.declared.port_fault.PortFault.TheVariants as faults;
 
 use crate::port_fault::PortFault;
@@ -19,6 +19,12 @@ pub trait Port {
     fn receive(&mut self) -> Result<Turn, PortFault>
         ensures received { IsReceived (traffic self.old) (traffic self.new) result }
         ensures cause { HasCause faults.Device (failures self.old) (failures self.new) result };
+
+    /// Takes in a datagram that is there, and waits for none. `None`: none is there, or it couldn't
+    /// be taken in; if that goes on, `receive` says so.
+    fn try_receive(&mut self) -> Option<Turn>
+        ensures taken { IsTakenIn (traffic self.old) (traffic self.new) result }
+        ensures later { failures self.old ≤ failures self.new };
 
     /// Sends a datagram to an address. `Device`: it counts as handed out, but is lost. `Memory`: it
     /// wasn't handed out.

@@ -84,8 +84,8 @@ pub(crate) fn reply<P: Port>(
     Ok(message.slot)
 }
 
-// Hands out a datagram. One that is lost since the port's device failed counts as handed out.
-fn send<P: Port>(port: &mut P, to: Address, bytes: &[u8]) -> Result<(), ServeFault>
+/// Hands out a datagram. One that is lost since the port's device failed counts as handed out.
+pub(crate) fn send<P: Port>(port: &mut P, to: Address, bytes: &[u8]) -> Result<(), ServeFault>
     ensures hands { Hands (P.traffic port.old) (P.traffic port.new) ((to, bytes.now) ∷ []) result }
     ensures later { P.failures port.old ≤ P.failures port.new }
 {

@@ -105,8 +105,8 @@ impl<C: Cell, P: Port, F: Folders> Server<'_, '_, '_, '_, '_, C, P, F> {
     }
 }
 
-// Receives once.
-fn receive<P: Port>(port: &mut P) -> Result<Turn, ServeFault>
+/// Receives once.
+pub(crate) fn receive<P: Port>(port: &mut P) -> Result<Turn, ServeFault>
     ensures received { Receives (P.traffic port.old) (P.traffic port.new) result }
     ensures cause { HasCause ServeFault.Port (P.failures port.old) (P.failures port.new) result }
 {
@@ -117,8 +117,12 @@ fn receive<P: Port>(port: &mut P) -> Result<Turn, ServeFault>
     }
 }
 
-// Writes the lines.
-fn write_lines<W: Write>(alloc: Global, lines: &[Line], output: &mut W) -> Result<(), ServeFault>
+/// Writes the lines.
+pub(crate) fn write_lines<W: Write>(
+    alloc: Global,
+    lines: &[Line],
+    output: &mut W,
+) -> Result<(), ServeFault>
     ensures whole { OnOk result (Appends (W.contents output.old) (W.contents output.new)
         (flat_map (line_text by_identity) lines.now)) }
     ensures part { OnErr result ((count : ℕ) × Appends (W.contents output.old)

@@ -4,7 +4,7 @@ ghost use Rattle.std.specs.Prelude.{◌≡◌, IfOk};
 ghost use Rattle.dgram.specs.Decoded.{message_of};
 ghost use Rattle.udp_site.specs.Signs.{sign_by, own_sign_by, signal_by, own_signal_by, signal_at};
 ghost use Rattle.udp_site.specs.Signs.{kind_byte, body_byte, is_prepare, is_accept, is_vote};
-ghost use Rattle.udp_site.specs.Signs.{is_recover, is_registered, is_pending};
+ghost use Rattle.udp_site.specs.Signs.{is_deposit, is_recover, is_registered, is_pending};
 
 use addresses::Address;
 use dgram::{Body, DgramFault, Message, decode};
@@ -25,6 +25,9 @@ const ACCEPT: u8 = 3;
 
 /// A vote's kind.
 const ACCEPTED: u8 = 4;
+
+/// The kind of a client's request to deposit a folder.
+const DEPOSIT: u8 = 16;
 
 /// The kind of a client's request to recover.
 const RECOVER: u8 = 18;
@@ -171,6 +174,13 @@ pub(crate) fn is_vote(bytes: &[u8]) -> bool
     ensures { result ≡ is_vote bytes.now }
 {
     kind_byte(bytes) == ACCEPTED
+}
+
+/// Whether a datagram that came may be a client's request to deposit a folder, by its kind.
+pub(crate) fn is_deposit(bytes: &[u8]) -> bool
+    ensures { result ≡ is_deposit bytes.now }
+{
+    kind_byte(bytes) == DEPOSIT
 }
 
 /// Whether a datagram that came may be a client's request to recover, by its kind.

@@ -156,13 +156,13 @@ impl<R: Clock + Drop> UdpPort<R> {
 }
 
 impl<R: Clock + Drop> Port for UdpPort<R> {
-    ghost use Rattle.std.specs.Prelude.{◌≡◌, None};
+    ghost use Rattle.std.specs.Prelude.{◌≡◌, None, Ok, IfSome, IfNone};
     ghost use Rattle.cell_device.specs.Calls.{HasCause};
     ghost use Rattle.udp_site.specs.declared.port_fault.PortFault.TheVariants as faults;
     ghost use Rattle.udp_site.specs.Pace.{hands};
-    ghost use Rattle.udp_site.specs.Traffic.{IsReceived, IsHanded};
+    ghost use Rattle.udp_site.specs.Traffic.{IsReceived, IsTakenIn, IsHanded};
     ghost use Rattle.udp_site.specs.UdpPorts.{failures_of, pace_of, recoveries_of, own_of};
-    ghost use Rattle.udp_site.specs.UdpPorts.{IsPaced};
+    ghost use Rattle.udp_site.specs.UdpPorts.{IsPaced, IsAsBefore};
 
     ghost failures = { failures_of };
 
@@ -176,6 +176,16 @@ impl<R: Clock + Drop> Port for UdpPort<R> {
             Ok(turn) => Ok(turn),
             Err(error) => Err(self.fail(&error)),
         }
+    }
+
+    // Where the system fails, `receive` says so if that goes on.
+    fn try_receive(&mut self) -> Option<Turn>
+        ensures taken { IsTakenIn None None result }
+        ensures failures { failures_of self.new ≡ failures_of self.old }
+        ensures paced { IfSome result (λ turn. IsPaced self.old self.new (Ok turn)) }
+        ensures same { IfNone result (IsAsBefore self.old self.new) }
+    {
+        datagram_at(self.alloc, self.federation, self.own, &mut self.socket).unwrap_or(None)
     }
 
     fn send(&mut self, to: Address, bytes: &[u8]) -> Result<(), PortFault>
@@ -194,11 +204,12 @@ impl<R: Clock + Drop> Port for UdpPort<R> {
     }
 }
 
-ghost use Rattle.std.specs.Prelude.{◌≡◌, IfOk, OnOk, OnErr};
+ghost use Rattle.std.specs.Prelude.{◌≡◌, IfOk, OnOk, OnErr, IfSome, IfNone};
 ghost use Rattle.dgram.specs.Decoded.{message_of};
 ghost use Rattle.udp_site.specs.Pace.{begins, takes};
 ghost use Rattle.udp_site.specs.Recoveries.{none_handed_on};
 ghost use Rattle.udp_site.specs.Signs.{signal_at};
+ghost use Rattle.udp_site.specs.Traffic.{IsDatagram};
 ghost use Rattle.udp_site.specs.inner.Paced.{TurnIsPaced};
 
 /// A socket at this address, and its own address.
@@ -240,6 +251,33 @@ fn turn_at<R: Clock + Drop>(
         }
         None => Ok(Turn::Idle),
     }
+}
+
+/// Takes a datagram that is there, and waits for none.
+fn datagram_at<R: Clock + Drop>(
+    alloc: Global,
+    federation: u64,
+    own: Address,
+    socket: &mut PacedSocket<R>,
+) -> io::Result<Option<Turn>>
+    ensures paced { IfOk result (λ got. IfSome got (λ turn. TurnIsPaced federation own
+        socket.old.pace socket.new.pace socket.old.recoveries socket.new.recoveries turn)) }
+    ensures same { IfOk result (λ got. IfNone got (socket.new.pace ≡ socket.old.pace)) }
+    ensures recoveries { IfOk result
+        (λ got. IfNone got (socket.new.recoveries ≡ socket.old.recoveries)) }
+    ensures failed { OnErr result ((socket.new.pace ≡ socket.old.pace)
+        × (socket.new.recoveries ≡ socket.old.recoveries)) }
+    ensures datagram { IfOk result (λ got. IfSome got IsDatagram) }
+{
+    // There is room before a datagram is taken, so that none is lost for want of it.
+    let mut bytes = vec![in alloc; 0; MOST_BYTES]?;
+    let Some(Arrival { from, count, now }) = socket.take_waiting(&mut bytes)? else {
+        return Ok(None);
+    };
+    bytes.truncate(count);
+    learn(alloc, federation, own, socket, now, from, &bytes)?;
+    socket.hands_on(now, &bytes);
+    Ok(Some(Turn::Got(from, bytes)))
 }
 
 /// The pace of the socket learns from what came at this moment from an address. A datagram is decoded

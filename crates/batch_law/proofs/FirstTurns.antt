@@ -1,0 +1,113 @@
+-- The first so many new records of a batch are those of its first turns.
+use Rattle.std.proofs.Common.{◌≡◌, inl, inr, ℕ, zero, suc, false, List, [], ◌∷◌, ◌++◌, take, Some}
+use Rattle.std.proofs.Common.{Result, refl, sym, ap, subst, ◌∙◌, append-nil, append_assoc}
+use Rattle.bag_tree.specs.declared.fault.TreeFault.{TreeFault}
+use Rattle.bag_tree.specs.Facts.{TreeFacts}
+use Rattle.records.specs.declared.record.Record.{Record}
+use Rattle.book.specs.declared.waiting.Waiting.{Waiting}
+use Rattle.site.specs.Batches.{no_cell}
+use Rattle.site.proofs.Batched.{Grows}
+use Rattle.udp_site.specs.Requests.{request_of}
+use Rattle.udp_site.specs.Turns.{Serving, members, turn_of}
+use Rattle.udp_site.specs.Served.{Turned}
+use Rattle.udp_site.specs.BatchTurns.{Follow}
+use Rattle.udp_site.proofs.WaitingTurns.{followed, followed_by}
+use Rattle.batch_law.proofs.OneRecord.{OneMore, turned}
+
+-- what comes after the same is the same
+same_rest : (xs ys zs : List Record) → xs ++ ys ≡ xs ++ zs → ys ≡ zs
+same_rest [] ys zs e = e
+same_rest (x ∷ xs) ys zs e = same_rest xs ys zs (rest x (xs ++ ys) (xs ++ zs) e)
+  where
+    rest : (r : Record) (us vs : List Record) → r ∷ us ≡ r ∷ vs → us ≡ vs
+    rest r us vs is = cc
+
+take_none : (n : ℕ) → take {A = Record} n [] ≡ []
+take_none zero = refl
+take_none (suc n) = refl
+
+module _ (addresses : List ℕ) (folders : List ℕ → Result TreeFacts TreeFault) where
+  abbrev Leads : (old : Serving Waiting) → List Turned → (next : Serving Waiting) → Type 0
+  Leads old turns next = Follow (turn_of no_cell addresses (Some folders)) old turns next
+
+  -- these turns come first, and make the first k of the new records
+  abbrev pub Firsts : (old next : Serving Waiting) → List Turned → (k : ℕ) → Type 0
+  Firsts old next turns k =
+      (first : List Turned) × (later : List Turned) × (first ++ later ≡ turns)
+      × (mid : Serving Waiting) × Leads old first mid
+      × ((new : List Record) → next.site.book.records ≡ old.site.book.records ++ new
+      → mid.site.book.records ≡ old.site.book.records ++ take k new)
+
+  pub firsts : (turns : List Turned) (old next : Serving Waiting) (k : ℕ)
+      → old.site.book.needs_opening ≡ false → Leads old turns next → Firsts old next turns k
+  firsts [] old next k opened follow = (
+    [],
+    [],
+    refl,
+    old,
+    refl,
+    λ new are.
+        let none : new ≡ [] = same_rest old.site.book.records new []
+        (sym are ∙ (ap (λ (s : Serving Waiting). s.site.book.records) (sym follow)
+        ∙ sym (append-nil old.site.book.records))) in
+        sym (ap (λ (l : List Record). old.site.book.records ++ take k l) none
+        ∙ (ap (λ (l : List Record). old.site.book.records ++ l) (take_none k)
+        ∙ append-nil old.site.book.records)),
+  )
+  firsts (turn ∷ turns) old next k opened (mid, comes, follow) =
+      go (λ m. firsts turns mid next m open_mid follow) k
+      (turned addresses mid turn.done (Some folders) old opened
+      (request_of (members old).federation turn.took) comes)
+    where
+      first_grows : Grows old.site.book mid.site.book
+      first_grows =
+          followed_by addresses (Some folders) old old mid [] turn opened refl comes
+
+      open_mid : mid.site.book.needs_opening ≡ false
+      open_mid = first_grows.opened ∙ opened
+
+      later_grows : Grows mid.site.book next.site.book
+      later_grows = followed addresses (Some folders) mid next turns open_mid follow
+
+      go : ((m : ℕ) → Firsts mid next turns m) → (n : ℕ)
+          → OneMore old.site.book.records mid.site.book.records
+          → Firsts old next (turn ∷ turns) n
+      go those n (inl same) =
+          let rest = those n in (
+            turn ∷ rest.0,
+            rest.1,
+            ap (λ (ts : List Turned). turn ∷ ts) rest.2,
+            rest.3,
+            (mid, comes, rest.4),
+            λ new are.
+                subst (λ (l : List Record). rest.3.site.book.records ≡ l ++ take n new) same
+                (rest.5 new (are ∙ ap (λ (l : List Record). l ++ new) (sym same))),
+          )
+      go those zero (inr one) = (
+        [],
+        turn ∷ turns,
+        refl,
+        old,
+        refl,
+        λ new are. sym (append-nil old.site.book.records),
+      )
+      go those (suc n) (inr (r, is)) =
+          let rest = those n in (
+            turn ∷ rest.0,
+            rest.1,
+            ap (λ (ts : List Turned). turn ∷ ts) rest.2,
+            rest.3,
+            (mid, comes, rest.4),
+            λ new are.
+                let more = later_grows.more in
+                let all : next.site.book.records ≡ old.site.book.records ++ (r ∷ more) =
+                later_grows.records
+                ∙ (ap (λ (l : List Record). l ++ more) is
+                ∙ append_assoc old.site.book.records (r ∷ []) more) in
+                let new_is : r ∷ more ≡ new =
+                same_rest old.site.book.records (r ∷ more) new (sym all ∙ are) in
+                rest.5 more later_grows.records
+                ∙ (ap (λ (l : List Record). l ++ take n more) is
+                ∙ (append_assoc old.site.book.records (r ∷ []) (take n more)
+                ∙ ap (λ (l : List Record). old.site.book.records ++ take (suc n) l) new_is)),
+          )

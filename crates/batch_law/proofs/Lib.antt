@@ -1,0 +1,9 @@
+pub mod DiskBooks
+pub mod DiskTurns
+pub mod WholeBatches
+pub mod OneRecord
+pub mod FirstTurns
+pub mod UnseenTurns
+pub mod Unsynced
+pub mod Crashes
+pub mod Synced

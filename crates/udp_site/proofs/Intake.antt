@@ -1,0 +1,123 @@
+-- What a batch takes in, one after another.
+use Rattle.std.proofs.Common.{◌≡◌, ◌≢◌, ◌≤◌, ◌+◌, true, List, [], ◌∷◌, ◌++◌, length}
+use Rattle.std.specs.Prelude.{IfOk}
+use Rattle.std.proofs.Common.{map, Option, Some, None, Result, Ok, Err, sym, ap, subst, ◌∙◌, arith}
+use Rattle.std.proofs.Common.{append_assoc, append-nil, inl, inr}
+use Rattle.std.specs.Option.{option_to_list}
+use Rattle.std.proofs.lemmas.List.{length-map, map-append}
+use Rattle.fed_types.specs.Laws.Lists.{has_none, has_one, has_cases}
+use Rattle.udp_site.specs.declared.turn.Turn.{Turn}
+use Rattle.udp_site.specs.Traffic.{Taken, Nothing, Move, Took, Grows, taken}
+use Rattle.udp_site.specs.BatchTurns.{AreTogether, joins, MOST_TURNS}
+use Rattle.udp_site.specs.inner.Batched.{TakesFirst, TakesIn, JoinsMore, carried_of}
+use Rattle.udp_site.specs.declared.fault.ServeFault.{ServeFault}
+use Rattle.udp_site.specs.inner.Receipts.{Receives}
+use Rattle.udp_site.proofs.Growth.{Grows-trans, Grows-none}
+
+-- nothing has joined yet
+pub none_joined : (a : Option (List Move)) (batch : List Turn) → JoinsMore a a batch batch None
+none_joined a batch =
+    ([], sym (append-nil (map taken batch)), λ taken has. absurd (has_none has), Grows-none a)
+
+-- this joins too
+pub one_joined : (a b c : Option (List Move)) (old so_far now : List Turn) (turn : Turn)
+    → JoinsMore a b old so_far None → Grows b c (Took (taken turn) ∷ [])
+    → joins (taken turn) ≡ true → now ≡ so_far ++ turn ∷ [] → JoinsMore a c old now None
+one_joined a b c old so_far now turn (more, are, join, grows) took joins_too is = (
+  more ++ taken turn ∷ [],
+  ap (map taken) is
+      ∙ (map-append taken so_far (turn ∷ [])
+      ∙ (ap (λ (l : List Taken). l ++ taken turn ∷ []) are
+      ∙ append_assoc (map taken old) more (taken turn ∷ []))),
+  λ x has. elim (has_cases more (taken turn ∷ []) has) [
+    | inl h ↦ join x h
+    | inr h ↦ subst (λ (t : Taken). joins t ≡ true) (has_one h) joins_too
+  ],
+  subst (Grows a c) (sym (all_took more (taken turn)))
+      (Grows-trans a b c (map Took (more ++ [])) (Took (taken turn) ∷ []) grows took),
+)
+  where
+    all_took : (xs : List Taken) (x : Taken)
+        → map Took ((xs ++ x ∷ []) ++ []) ≡ map Took (xs ++ []) ++ Took x ∷ []
+    all_took xs x =
+        ap (map Took) (append-nil (xs ++ x ∷ []))
+        ∙ (map-append Took xs (x ∷ [])
+        ∙ ap (λ (l : List Taken). map Took l ++ Took x ∷ []) (sym (append-nil xs)))
+
+-- this is carried
+pub then_carried : (a b c : Option (List Move)) (old now : List Turn) (turn : Turn)
+    → JoinsMore a b old now None → Grows b c (Took (taken turn) ∷ [])
+    → JoinsMore a c old now (Some turn)
+then_carried a b c old now turn (more, are, join, grows) took = (
+  more,
+  are,
+  join,
+  subst (Grows a c) (sym (all_took more (taken turn)))
+      (Grows-trans a b c (map Took (more ++ [])) (Took (taken turn) ∷ []) grows took),
+)
+  where
+    all_took : (xs : List Taken) (x : Taken)
+        → map Took (xs ++ x ∷ []) ≡ map Took (xs ++ []) ++ Took x ∷ []
+    all_took xs x =
+        map-append Took xs (x ∷ [])
+        ∙ ap (λ (l : List Taken). map Took l ++ Took x ∷ []) (sym (append-nil xs))
+
+-- no more came
+pub no_more : (a b c : Option (List Move)) (old now : List Turn) → JoinsMore a b old now None
+    → Grows b c [] → JoinsMore a c old now None
+no_more a b c old now (more, are, join, grows) took = (
+  more,
+  are,
+  join,
+  subst (Grows a c) (append-nil (map Took (more ++ [])))
+      (Grows-trans a b c (map Took (more ++ [])) [] grows took),
+)
+
+-- the first turn, and those that joined it
+pub all_taken_in : (a b c : Option (List Move)) (old carried : Option Turn) (turn : Turn)
+    (first batch : List Turn) → first ≡ turn ∷ [] → TakesFirst a b old turn
+    → JoinsMore b c first batch carried → taken turn ≢ Nothing
+    → length batch + length (option_to_list (carried_of carried)) ≤ MOST_TURNS
+    → TakesIn a c old carried batch
+all_taken_in a b c old carried turn first batch is (came, begins, grows) (more, are, join, took)
+    not_idle most =
+    let rest = option_to_list (carried_of carried) in
+    let batch_is : map taken batch ≡ taken turn ∷ more =
+    are ∙ ap (λ ts. map taken ts ++ more) is in (
+      came ++ (more ++ rest),
+      sym (append_assoc (option_to_list (carried_of old)) came (more ++ rest))
+          ∙ (ap (λ (l : List Taken). l ++ (more ++ rest)) begins
+          ∙ ap (λ (l : List Taken). l ++ rest) (sym batch_is)),
+      subst AreTogether (sym batch_is) (
+        omega (arith, most, ap length batch_is, length-map batch taken),
+        λ x has. (not_idle, join x has),
+      ),
+      subst (Grows a c) (sym (map-append Took came (more ++ rest)))
+          (Grows-trans a b c (map Took came) (map Took (more ++ rest)) grows took),
+    )
+
+-- the first turn alone
+pub one_taken_in : (a b : Option (List Move)) (old carried : Option Turn) (turn : Turn)
+    (batch : List Turn) → batch ≡ turn ∷ [] → TakesFirst a b old turn → carried ≡ None
+    → TakesIn a b old carried batch
+one_taken_in a b old carried turn batch is (came, begins, grows) none = (
+  came,
+  begins
+      ∙ (ap (map taken) (sym is)
+      ∙ (sym (append-nil (map taken batch))
+      ∙ ap (λ (t : Option Turn). map taken batch ++ option_to_list (carried_of t)) (sym none))),
+  subst (λ (ts : List Turn). AreTogether (map taken ts)) (sym is)
+      (omega arith, λ x has. absurd (has_none has)),
+  grows,
+)
+
+-- nothing was carried, and this was received
+pub received_first : (a b : Option (List Move)) (old : Option Turn)
+    (result : Result Turn ServeFault)
+    → old ≡ None → Receives a b result → IfOk result (λ turn. TakesFirst a b old turn)
+received_first a b old (Ok turn) none grows = (
+  taken turn ∷ [],
+  ap (λ (o : Option Turn). option_to_list (carried_of o) ++ taken turn ∷ []) none,
+  grows,
+)
+received_first a b old (Err fault) none grows = tt
