@@ -7,8 +7,8 @@ use Rattle.records.specs.Layout.{record_bytes}
 use Rattle.records.specs.Records.{IsRecord}
 use Rattle.records.specs.Texts.{IsTextOf}
 
--- A site appends at most this many records before it syncs: each commit appends one, and syncs. (A
--- batch appends more; no command uses one.)
+-- At most so many records aren't synced while each is committed by itself: a commit appends one, and
+-- syncs. A batch appends more: Batches has the same for any number.
 abbrev pub most_unsynced : ℕ
 most_unsynced = 1
 
