@@ -32,7 +32,7 @@ on_book b = record {
 }
 
 -- so it is, where it needs no opening
-on_open : (b : OpenBook Waiting) (owner : Owner) (records : List Record) → b.owner ≡ owner
+pub on_open : (b : OpenBook Waiting) (owner : Owner) (records : List Record) → b.owner ≡ owner
     → b.records ≡ records → b.needs_opening ≡ false → holds owner records ≡ on_book b
 on_open b owner records is are opened =
     ap (λ (o : Owner). holds o records) (sym is)

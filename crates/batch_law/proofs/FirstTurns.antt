@@ -1,5 +1,5 @@
 -- The first so many new records of a batch are those of its first turns.
-use Rattle.std.proofs.Common.{◌≡◌, inl, inr, ℕ, zero, suc, false, List, [], ◌∷◌, ◌++◌, take, Some}
+use Rattle.std.proofs.Common.{◌≡◌, inl, inr, ℕ, zero, suc, false, List, [], ◌∷◌, ◌++◌, take, Option}
 use Rattle.std.proofs.Common.{Result, refl, sym, ap, subst, ◌∙◌, append-nil, append_assoc}
 use Rattle.bag_tree.specs.declared.fault.TreeFault.{TreeFault}
 use Rattle.bag_tree.specs.Facts.{TreeFacts}
@@ -26,9 +26,9 @@ take_none : (n : ℕ) → take {A = Record} n [] ≡ []
 take_none zero = refl
 take_none (suc n) = refl
 
-module _ (addresses : List ℕ) (folders : List ℕ → Result TreeFacts TreeFault) where
+module _ (addresses : List ℕ) (gives : Option (List ℕ → Result TreeFacts TreeFault)) where
   abbrev Leads : (old : Serving Waiting) → List Turned → (next : Serving Waiting) → Type 0
-  Leads old turns next = Follow (turn_of no_cell addresses (Some folders)) old turns next
+  Leads old turns next = Follow (turn_of no_cell addresses gives) old turns next
 
   -- these turns come first, and make the first k of the new records
   abbrev pub Firsts : (old next : Serving Waiting) → List Turned → (k : ℕ) → Type 0
@@ -56,18 +56,18 @@ module _ (addresses : List ℕ) (folders : List ℕ → Result TreeFacts TreeFau
   )
   firsts (turn ∷ turns) old next k opened (mid, comes, follow) =
       go (λ m. firsts turns mid next m open_mid follow) k
-      (turned addresses mid turn.done (Some folders) old opened
+      (turned addresses mid turn.done gives old opened
       (request_of (members old).federation turn.took) comes)
     where
       first_grows : Grows old.site.book mid.site.book
       first_grows =
-          followed_by addresses (Some folders) old old mid [] turn opened refl comes
+          followed_by addresses gives old old mid [] turn opened refl comes
 
       open_mid : mid.site.book.needs_opening ≡ false
       open_mid = first_grows.opened ∙ opened
 
       later_grows : Grows mid.site.book next.site.book
-      later_grows = followed addresses (Some folders) mid next turns open_mid follow
+      later_grows = followed addresses gives mid next turns open_mid follow
 
       go : ((m : ℕ) → Firsts mid next turns m) → (n : ℕ)
           → OneMore old.site.book.records mid.site.book.records

@@ -39,7 +39,7 @@ both_happen ms f (h ∷ first) then (now, happen) may =
     (now, both_happen ms (after f h) first then happen may)
 
 -- a disk keeps its records
-recovers : (owner : Owner) (records : List Record) (n : ℕ) → owner.site ≡ n
+pub recovers : (owner : Owner) (records : List Record) (n : ℕ) → owner.site ≡ n
     → IsMembership owner.members → AreRecords records
     → MayRecoverTo (record { members = owner.members; site = n })
     (device (Holds owner records)) (device (Holds owner records)) records

@@ -1,5 +1,5 @@
 -- A batch that isn't synced.
-use Rattle.std.proofs.Common.{List, ◌++◌, take, refl, sym}
+use Rattle.std.proofs.Common.{List, ◌++◌, take, Some, refl, sym}
 use Rattle.std.proofs.Common.{subst}
 use Rattle.fed_types.specs.Lists.{Has}
 use Rattle.fed_types.specs.Laws.Lists.{has_left}
@@ -16,7 +16,7 @@ use Rattle.batch_law.proofs.UnseenTurns.{unseen_end}
 pub unsynced_batches : UnsyncedBatchesAreTurns
 unsynced_batches n f addresses folders old next turns new k follow are_new is site opened are
     serving may =
-    let part = firsts addresses folders turns old next k opened follow in
+    let part = firsts addresses (Some folders) turns old next k opened follow in
     let left = part.5 new are_new in (
       part.0,
       part.1,

@@ -1,74 +1,266 @@
 -- A process that takes a deposit, over a new disk.
-use Rattle.std.proofs.Common.{◌≡◌, ℕ, refl, sym, ◌∙◌, true, List, [], ◌∷◌, ◌++◌}
-use Rattle.std.proofs.Common.{append-nil, Some, arith}
-use Rattle.std.specs.Prelude.{Ok, IsSome}
+use Rattle.std.proofs.Common.{◌≡◌, ℕ, inl, inr, refl, sym, ap, subst, ◌∙◌, true, false, List, []}
+use Rattle.std.proofs.Common.{◌∷◌, ◌++◌, append-nil, None, Some, arith}
+use Rattle.std.specs.Prelude.{Result, Ok, IsSome}
+use Rattle.bag_tree.specs.declared.fault.TreeFault.{TreeFault}
+use Rattle.bag_tree.specs.Facts.{TreeFacts}
 use Rattle.fed_types.specs.declared.bag_id.BagId.{BagId}
 use Rattle.fed_types.specs.Lists.{is_in}
 use Rattle.fed_types.specs.Sites.{Membership, members_of}
 use Rattle.fed_types.specs.Slots.{SlotName}
 use Rattle.fed_types.specs.Values.{IsMembership}
-use Rattle.fed_types.specs.Laws.Lists.{is_in_decides}
+use Rattle.fed_types.specs.Laws.Lists.{is_in_decides, has_none}
+use Rattle.cell_device.specs.declared.fuse.FuseState.{FuseState}
+use Rattle.cell_device.specs.declared.fuse.FuseState.TheVariants.{Clear}
 use Rattle.cell_device.specs.Images.{at_rest}
+use Rattle.cell_device.specs.States.{IsIn, state_of, after_call}
 use Rattle.lines.specs.declared.notice.Notice.TheVariants.{Registered}
 use Rattle.records.specs.declared.owner.Owner.{Owner}
 use Rattle.records.specs.declared.record.Record.{Record}
+use Rattle.records.specs.Records.{IsRecord}
 use Rattle.records.proofs.Texts.{nothing_says}
+use Rattle.book.specs.declared.waiting.Waiting.{Waiting}
+use Rattle.book.specs.Batches.{BatchCell, Syncs, keeps_nothing}
+use Rattle.book.specs.Committed.{Commits, CameOut, commit_outcome, after_commit}
+use Rattle.book.specs.OpenBooks.{OpenBook}
+use Rattle.records.specs.SlotStates.{known_of, used_of}
+use Rattle.dgram.specs.Heard.{bodies_of, floor_of, voters_for}
+use Rattle.learner.specs.declared.row.Row.TheVariants as rows
+use Rattle.proposer.specs.Rows.{empty_row}
+use Rattle.proposer.specs.UnderWay.{nothing}
+use Rattle.proposer.specs.VolatileStates.{new_volatile}
+use Rattle.site.specs.Answered.{IsAnswered}
+use Rattle.site.specs.Batches.{no_cell}
+use Rattle.site.specs.Calls as calls
+use Rattle.site.specs.Effects.{Effect}
 use Rattle.site.specs.Sites.{OpenSite}
-use Rattle.udp_site.specs.Served.{Turned, Shows, notice_text, outside}
-use Rattle.udp_site.specs.Served as served
-use Rattle.udp_site.specs.Traffic.{all_handed}
-use Rattle.udp_site.specs.Turns.{turn_of}
-use Rattle.site_commands.specs.Services.{ServedBy}
+use Rattle.site_tables.specs.Contents.{Represents}
+use Rattle.bag_check.specs.Check.{check_of}
+use Rattle.udp_site.specs.BatchTurns.{Batch, Batching, Batches, Shows, begins_with}
+use Rattle.udp_site.specs.Requests as requests
+use Rattle.udp_site.specs.Served.{notice_text}
+use Rattle.udp_site.specs.Traffic.{From, all_handed}
+use Rattle.udp_site.specs.Turns.{Serving, Done, IsCalled, begins, turn_of, comes_of}
+use Rattle.site_commands.specs.Services.{ServedBy, IsParted}
 use Rattle.site_commands.specs.declared.site_arguments.Turns.TheVariants.{Count}
-use Rattle.serving_law.specs.Disks.{Disk, Blank, device, journal}
+use Rattle.serving_law.specs.Disks.{Disk, Blank, Holds, device, journal}
 use Rattle.serving_law.specs.Examples.{Request, recorded}
-use Rattle.serving_law.specs.Federations.{Step}
-use Rattle.serving_law.specs.Rules.{Takes, IsHistory}
+use Rattle.serving_law.proofs.Answers.{seals_are}
 use Rattle.serving_law.proofs.Deaths as deaths
 use Rattle.serving_law.proofs.DiskCalls.{owner}
-use Rattle.serving_law.proofs.DiskJournals.{holds, opens_new, says}
+use Rattle.serving_law.proofs.DiskJournals.{holds, opens_new, says, commits}
+use Rattle.serving_law.proofs.Tables.{stands}
 use Rattle.process_law.specs.Examples.{TakesADeposit, AProcessTakesADeposit, nothing_yet, all_done}
+
+-- the site's list of records alone
+abbrev book_of : Owner → List Record → OpenBook Waiting
+book_of whose records = record {
+  cell = record { nothing = tt };
+  records = records;
+  needs_opening = false;
+  owner = whose;
+}
+
+-- a record is put in the list
+commits_waiting : (whose : Owner) (r : Record)
+    → Commits no_cell (book_of whose []) r (Ok tt) (book_of whose (r ∷ []))
+unfolding after_call
+commits_waiting whose r = record {
+  committed = (refl, refl);
+  durable = tt;
+  recovers = tt;
+  device_failed = λ e. absurd (cc e);
+  memory = λ e. absurd (cc e);
+  any_moment = record {
+    later = omega arith;
+    each = λ c left. tt;
+    before = λ t c within left. inl tt;
+  };
+  cause = record { later = omega arith; failed = λ e. absurd (cc e); same = λ other. refl };
+  fuse = λ f e.
+      subst (λ (g : FuseState). CameOut (commit_outcome g [] r) whose (Ok tt) keeps_nothing
+      keeps_nothing) (clear f e) (refl, refl);
+  calls = λ f e.
+      subst (λ (g : FuseState). IsIn (after_commit r (Ok tt) (state_of keeps_nothing g))
+      keeps_nothing) (clear f e) (record { image = refl; fuse = refl; failures = refl });
+  whose = refl;
+}
+  where
+    clear : (f : FuseState) → Some Clear ≡ Some f → Clear ≡ f
+    clear f e = cc
+
+-- and then it is synced on the disk
+synced : (whose : Owner) (r : Record)
+    → Commits device (holds whose []) r (Ok tt) (holds whose (r ∷ []))
+    → Syncs device (holds whose []) (r ∷ []) (Ok tt) (holds whose (r ∷ []))
+synced whose r does = record {
+  committed = (refl, refl);
+  durable = does.durable;
+  recovers = does.recovers;
+  device_failed = λ e. absurd (cc e);
+  memory = λ e. absurd (cc e);
+  any_moment = record {
+    later = does.any_moment.later;
+    each = λ c left. elim (does.any_moment.each c left) [
+      | inl before ↦ (0, before)
+      | inr after ↦ (1, after)
+    ];
+    before = λ t c within left. elim (does.any_moment.before t c within left) [
+      | inl past ↦ inl past
+      | inr (inl before) ↦ inr (0, before)
+      | inr (inr after) ↦ inr (1, after)
+    ];
+  };
+  cause = does.cause;
+  fuse = λ some f e. absurd (cc e);
+  calls = λ some f e. absurd (cc e);
+  nothing = λ none. absurd (cc none);
+  whose = refl;
+}
 
 module _ (members : Membership) (is_membership : IsMembership members) (slot : SlotName)
     (bag : BagId) (request : Request members.federation slot bag) where
   abbrev its : Owner
   its = owner members is_membership 1
 
-  abbrev step : Step Disk
-  step = deaths.step members is_membership slot bag request
+  abbrev r : Record
+  r = recorded slot bag
 
-  abbrev site : OpenSite Disk
-  site = record { book = holds its []; tables = deaths.its_tables members is_membership slot bag }
+  abbrev folders : List ℕ → Result TreeFacts TreeFault
+  folders = (deaths.step members is_membership slot bag request).folders
 
-  comes : turn_of device [] (Some step.folders)
-      (deaths.old members is_membership slot bag) step.turn.took step.turn.done step.next
-  comes = deaths.comes members is_membership slot bag request
+  abbrev done : Done
+  done = deaths.done members is_membership slot bag request
+
+  is_record : IsRecord r
+  is_record = deaths.is_record members is_membership slot bag request
+
+  -- ---- the site
+
+  abbrev opened : OpenSite Disk
+  opened = record {
+    book = holds its [];
+    tables = deaths.its_tables members is_membership slot bag;
+  }
+
+  abbrev site : List Record → OpenSite Waiting
+  site records = record {
+    book = book_of its records;
+    tables = deaths.its_tables members is_membership slot bag;
+  }
+
+  abbrev held : List Record → (synced : ℕ) → BatchCell Disk
+  held records synced = record {
+    cell = Holds its records;
+    synced = synced;
+    needs_opening = false;
+  }
+
+  abbrev start : Batching Disk
+  start = begins_with (site []) (held [] 0) new_volatile
+
+  abbrev end : Batching Disk
+  end = begins_with (site (r ∷ [])) (held (r ∷ []) 1) new_volatile
+
+  first_stands : Represents (deaths.its_tables members is_membership slot bag) [] new_volatile
+      nothing
+  unfolding floor_of bodies_of voters_for used_of known_of
+  first_stands =
+      stands slot members 1 [] [] new_volatile refl (λ s f. refl)
+      (record { own = empty_row; heard = rows.Unheard })
+      (record { used = refl; floor = refl; begun = refl; current = tt; waiting = refl })
+      refl (λ none vote n. refl)
+
+  parted : IsParted opened (site []) (held [] 0)
+  parted = record {
+    records = refl;
+    owner = refl;
+    waits = refl;
+    represents = (nothing, first_stands);
+    cell = refl;
+    synced = refl;
+    needs_opening = refl;
+  }
+
+  -- ---- its turn
+
+  abbrev old : Serving Waiting
+  old = begins (site []) new_volatile
+
+  abbrev new : Serving Waiting
+  new = begins (site (r ∷ [])) new_volatile
+
+  called : IsCalled no_cell old (calls.Deposits slot (check_of request.facts))
+      (Ok (deaths.answer members is_membership slot bag)) new
+  called =
+      let is = deaths.effect_is members is_membership slot bag request in record {
+        answered = λ opened.
+            subst (λ (e : Effect). IsAnswered no_cell (site []) (site (r ∷ [])) new_volatile e
+            (Ok (deaths.answer members is_membership slot bag))) (sym is) (record {
+              keeps = inr (commits_waiting its r);
+              gives = (
+                refl,
+                seals_are members.federation [] tt,
+                (nothing, deaths.it_stands members is_membership slot bag),
+              );
+            });
+        refused = λ needs. absurd (cc needs);
+        volatile = ap (λ (e : Effect). e.volatile) (sym is);
+        idle = refl;
+        tried = refl;
+      }
+
+  comes : turn_of no_cell [] (Some folders) old (From request.address request.bytes) done new
+  comes =
+      subst (λ (q : requests.Request). comes_of no_cell [] (Some folders) old q done new)
+      (sym request.asked)
+      (Ok request.facts, refl, (Ok (deaths.answer members is_membership slot bag), called, refl))
+
+  -- ---- its batch
+
+  abbrev batch : Batch
+  batch = record {
+    came = From request.address request.bytes ∷ [];
+    turns = (deaths.step members is_membership slot bag request).turn ∷ [];
+  }
+
+  made : Batches device (turn_of no_cell [] (Some folders)) start batch (Ok tt) end
+  made = record {
+    took = refl;
+    together = (omega arith, λ taken among. absurd (has_none among));
+    follow = (new, comes, refl);
+    synced = record {
+      syncs = λ opened. synced its r (commits its is_membership.1 [] tt r is_record);
+      needs_open = λ shut. absurd (cc shut);
+    };
+  }
 
   abbrev line : List ℕ
   line = notice_text (Registered 1 slot bag)
 
   -- it alone is written
-  text_is : line ≡ ((line ++ []) ++ []) ++ []
+  text_is : line ≡ (((line ++ []) ++ []) ++ []) ++ []
   text_is =
-      sym (append-nil ((line ++ []) ++ []) ∙ append-nil (line ++ []) ∙ append-nil line)
+      sym (append-nil (((line ++ []) ++ []) ++ []) ∙ append-nil ((line ++ []) ++ [])
+      ∙ append-nil (line ++ []) ∙ append-nil line)
 
-  shows : Shows nothing_yet (all_done members slot bag request) (step.turn ∷ []) [] []
+  shows : Shows nothing_yet (all_done members slot bag request) (batch ∷ []) [] []
   unfolding all_handed
   shows = (refl, text_is)
 
-  abbrev serves : ServedBy (turn_of device [] (Some step.folders)) (Count 1) nothing_yet
-      (all_done members slot bag request) (deaths.old members is_membership slot bag) (Ok 0)
+  abbrev serves : ServedBy device (turn_of no_cell [] (Some folders)) (Count 1) nothing_yet
+      (all_done members slot bag request) start (Ok 0)
   serves = record {
-    end = step.next;
-    calls = (step.turn ∷ []) ∷ [];
+    end = end;
+    calls = (batch ∷ []) ∷ [];
     result = Ok tt;
     ended = all_done members slot bag request;
     serves = (
       refl,
       (
-        step.next,
+        end,
         all_done members slot bag request,
-        (refl, ((step.next, comes, refl, refl), shows)),
+        (refl, refl, ((end, made, refl), shows)),
         (refl, refl),
       ),
     );
@@ -78,24 +270,26 @@ module _ (members : Membership) (is_membership : IsMembership members) (slot : S
 
   pub takes_a_deposit : TakesADeposit members slot bag request
   takes_a_deposit = record {
-    folders = step.folders;
+    folders = folders;
     told = λ cell. refl;
     reads = record { image = at_rest []; told = refl; says = nothing_says its };
     process = record {
       member =
           (is_in_decides (members_of members) 1).1
           (deaths.one members is_membership slot bag request);
-      site = site;
-      opened = opens_new its is_membership.1;
+      membership = is_membership;
+      opened = opened;
+      opens = opens_new its is_membership.1;
+      site = site [];
+      held = held [] 0;
+      parted = parted;
       served = serves;
     };
     recovers = record {
       told = refl;
-      bytes = journal its (recorded slot bag ∷ []);
+      bytes = journal its (r ∷ []);
       left = (2, omega arith, omega arith, refl);
-      says =
-          says its is_membership.1 (recorded slot bag ∷ [])
-          (deaths.is_record members is_membership slot bag request, tt);
+      says = says its is_membership.1 (r ∷ []) (is_record, tt);
     };
   }
 

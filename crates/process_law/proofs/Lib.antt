@@ -1,4 +1,7 @@
-pub mod Parts
+pub mod Decoded
+pub mod Takes
+pub mod Stands
+pub mod Told
 pub mod Accounts
-pub mod Endings
+pub mod Reached
 pub mod Deposited

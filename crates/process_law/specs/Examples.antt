@@ -1,7 +1,7 @@
 -- A process that makes the premises of the laws true: over a new disk it opens its site, and serves
--- one turn. A client asks for a deposit, and is told that it is registered; a line says so; and the
--- disk holds the record.
-use Rattle.std.specs.Prelude.{◌≡◌, ℕ, List, [], ◌∷◌, Option, Some, Result, Ok}
+-- one turn. A client asks for a deposit; its record is synced; the client is told that it is
+-- registered; a line says so; and the disk holds the record.
+use Rattle.std.specs.Prelude.{ℕ, List, [], ◌∷◌, Some, Result, Ok}
 use Rattle.bag_tree.specs.declared.fault.TreeFault.{TreeFault}
 use Rattle.bag_tree.specs.Facts.{TreeFacts}
 use Rattle.fed_types.specs.declared.bag_id.BagId.{BagId}
@@ -9,6 +9,7 @@ use Rattle.fed_types.specs.Sites.{Membership}
 use Rattle.fed_types.specs.Slots.{SlotName}
 use Rattle.fed_types.specs.Values.{IsMembership}
 use Rattle.lines.specs.declared.notice.Notice.TheVariants.{Registered}
+use Rattle.site.specs.Batches.{no_cell}
 use Rattle.udp_site.specs.Served.{Outside, outside, notice_text}
 use Rattle.udp_site.specs.Traffic.{Took, Handed, From}
 use Rattle.udp_site.specs.Turns.{turn_of}
@@ -16,8 +17,9 @@ use Rattle.site_commands.specs.declared.site_arguments.Turns.TheVariants.{Count}
 use Rattle.site_commands.specs.Services.{HasServed}
 use Rattle.serving_law.specs.Disks.{Disk, Blank, device}
 use Rattle.serving_law.specs.Examples.{Request, recorded, reply_to}
-use Rattle.serving_law.specs.Rules.{MayRecoverTo, ReadGives, owner_of, device_of}
+use Rattle.serving_law.specs.Rules.{ReadGives, owner_of}
 use Rattle.register_law.specs.FileCells.{TellTheirBytes}
+use Rattle.process_law.specs.Processes.{MayHaveLeft}
 
 -- nothing was received, handed out or written before
 abbrev pub nothing_yet : Outside
@@ -38,10 +40,10 @@ module _ (members : Membership) (slot : SlotName) (bag : BagId)
     pub folders : List ℕ → Result TreeFacts TreeFault
     pub told : TellTheirBytes device
     pub reads : ReadGives (owner_of device members 1) (device Blank) []
-    pub process : HasServed device (turn_of device [] (Some folders)) (owner_of device members 1)
+    pub process : HasServed device (turn_of no_cell [] (Some folders)) (owner_of device members 1)
         (Count 1) Blank nothing_yet all_done (Ok 0)
-    pub recovers : MayRecoverTo (owner_of device members 1)
-        (device_of device members process.served.end) (device_of device members process.served.end)
+    pub recovers : MayHaveLeft device (turn_of no_cell [] (Some folders))
+        (owner_of device members 1) process.served.end.held process.served.end.held
         (recorded slot bag ∷ [])
 
 abbrev pub AProcessTakesADeposit : Type 0

@@ -1,3 +1,2 @@
 pub mod Processes
-pub mod Endings
 pub mod Examples

@@ -1,25 +1,26 @@
 ghost use Rattle.fed_types.specs.Sites.{Membership};
-ghost use Rattle.process_law.specs.Endings.{AccountsEndAnywhere};
-ghost use Rattle.process_law.specs.Processes.{AccountsGoOn, ProcessesHaveAccounts};
+ghost use Rattle.process_law.specs.Processes.{AccountsGoOn, ProcessesComeSoFar};
+ghost use Rattle.process_law.specs.Processes.{ProcessesHaveAccounts};
 
 use cell_device::Cell;
 
 // A function here does nothing: its contract is the law.
 
-/// What `site_commands::open_and_serve` does, by its contract, is an account of the site that it
-/// serves.
+/// A process that has come so far, and ends or is killed then, makes an account of its member: over
+/// any cell that tells its bytes, at any moment after its start, in a sync or between two, and after
+/// any part of what a batch hands out and writes.
 pub fn processes_have_accounts<C: Cell>()
     ensures { (members : Membership) → ProcessesHaveAccounts C.device members }
 {}
 
-/// So one process after another makes an account of its member.
-pub fn accounts_go_on<C: Cell>()
-    ensures { (members : Membership) → AccountsGoOn C.device members }
+/// What `site_commands::open_and_serve` does, by its contract, is to come so far. So of a process
+/// that is killed all that has to be believed is that it did a beginning of what a process does that
+/// returns.
+pub fn processes_come_so_far<C: Cell>()
+    ensures { (members : Membership) → ProcessesComeSoFar C.device members }
 {}
 
-/// And an account may end anywhere after its start: between two turns, in a call, or after any part of what a turn
-/// hands out and writes. So of a process that is killed all that has to be believed is that it did
-/// a beginning of what a process does that returns.
-pub fn accounts_end_anywhere<C: Cell>()
-    ensures { (members : Membership) → AccountsEndAnywhere C.device members }
+/// So one process after another makes an account of its member.
+pub fn accounts_go_on()
+    ensures { (members : Membership) → AccountsGoOn members }
 {}

@@ -7,4 +7,4 @@ mod examples;
 mod law;
 
 pub use examples::a_process_takes_a_deposit;
-pub use law::{accounts_end_anywhere, accounts_go_on, processes_have_accounts};
+pub use law::{accounts_go_on, processes_come_so_far, processes_have_accounts};

@@ -65,7 +65,7 @@ module _ (members : Membership) (is_membership : IsMembership members) (slot : S
       go true = refl
       go false = refl
 
-  it_stands : Represents its_tables (records_of slot (entry.Deposit bag ∷ [])) new_volatile
+  pub it_stands : Represents its_tables (records_of slot (entry.Deposit bag ∷ [])) new_volatile
       nothing
   unfolding floor_of bodies_of voters_for
   it_stands =

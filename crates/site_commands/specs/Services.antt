@@ -1,30 +1,33 @@
 -- What a process that is to serve a site does with its cell, its port and its output: it opens the
--- site, and calls `serve`, once or again and again.
+-- site, parts it from its cell, and calls `serve_batches`, once or again and again.
 use Rattle.std.specs.Prelude.{◌≡◌, ◌⊎◌, ◌<◌, ℕ, true, false, List, [], ◌∷◌, ◌++◌, length, codes}
 use Rattle.std.specs.Prelude.{Option, Result, Ok, Err}
 use Rattle.std.specs.Fmt.{decimal}
 use Rattle.fed_types.specs.Lists.{is_in}
 use Rattle.fed_types.specs.Sites.{members_of}
+use Rattle.fed_types.specs.Values.{IsMembership}
 use Rattle.cell_device.specs.Devices.{Device}
 use Rattle.records.specs.declared.owner.Owner.{Owner}
 use Rattle.book.specs.declared.fault.OpenFault.{OpenFault}
+use Rattle.book.specs.declared.waiting.Waiting.{Waiting}
+use Rattle.book.specs.Batches.{BatchCell}
 use Rattle.book.specs.Faults.{open_number}
 use Rattle.book.specs.Opened.{Opens}
 use Rattle.proposer.specs.VolatileStates.{new_volatile}
-use Rattle.site.specs.Sites.{OpenSite}
+use Rattle.site.specs.Sites.{OpenSite, Represents}
 use Rattle.outcomes.specs.declared.fault.ProgramFault.{ProgramFault}
 use Rattle.outcomes.specs.declared.fault.ProgramFault.TheVariants.{Output}
 use Rattle.outcomes.specs.Outcomes.{Outcome}
 use Rattle.udp_site.specs.declared.fault.ServeFault.{ServeFault}
 use Rattle.udp_site.specs.declared.fault.ServeFault.TheVariants as faults
 use Rattle.udp_site.specs.Faults.{serve_number}
-use Rattle.udp_site.specs.Turns.{Serving, begins}
-use Rattle.udp_site.specs.Served.{Rule, Turned, Outside, Serves}
+use Rattle.udp_site.specs.Served.{Rule, Outside}
+use Rattle.udp_site.specs.BatchTurns.{Batch, Batching, ServesBatches, begins_with}
 use Rattle.site_commands.specs.declared.site_arguments.Turns.{Turns}
 use Rattle.site_commands.specs.declared.site_arguments.Turns.TheVariants as turns
 use Rattle.site_commands.specs.Answers.{IsTold}
 
--- ---- calls of `serve`
+-- ---- calls of `serve_batches`
 
 -- a call is for so many turns
 abbrev pub turns_in : Turns → ℕ
@@ -36,27 +39,32 @@ abbrev pub most_calls : Turns → ℕ
 most_calls (turns.Count count) = 1
 most_calls turns.Forever = 18446744073709551615
 
-module _ {C : Type 0} (rule : Rule C) (wanted : ℕ) where
-  -- The site has served by these calls, all of which were Ok. Each goes on where the one before it
-  -- ended, but that idle turns are counted anew.
-  abbrev pub GoesOn : (before after : Outside) → (start end : Serving C) → List (List Turned)
+-- the next call goes on where one ended that was Ok, but that idle turns are counted anew; nothing
+-- was taken in for it
+abbrev pub goes_on_from : {C : Type 0} → Batching C → Batching C
+goes_on_from end = begins_with end.serving.site end.held end.serving.volatile
+
+module _ {C : Type 0} (device : C → Device) (rule : Rule Waiting) (wanted : ℕ) where
+  -- The site has served by these calls, all of which were Ok, each of these batches.
+  abbrev pub GoesOn : (before after : Outside) → (start end : Batching C) → List (List Batch)
       → Type 0
   GoesOn before after start end [] = (end ≡ start) × (after ≡ before)
-  GoesOn before after start end (turns ∷ calls) =
-      (mid : Serving C) × (between : Outside)
-      × Serves rule before between start mid wanted turns (Ok tt)
-      × GoesOn between after (begins mid.site mid.volatile) end calls
+  GoesOn before after start end (batches ∷ calls) =
+      (mid : Batching C) × (between : Outside)
+      × ServesBatches device rule before between start mid wanted batches (Ok tt)
+      × GoesOn between after (goes_on_from mid) end calls
 
   -- and by one more, which a fault ended
-  abbrev pub EndsBy : ServeFault → (before after : Outside) → (start end : Serving C)
-      → List (List Turned) → Type 0
+  abbrev pub EndsBy : ServeFault → (before after : Outside) → (start end : Batching C)
+      → List (List Batch) → Type 0
   EndsBy fault before after start end calls =
-      (mid : Serving C) × (between : Outside) × GoesOn before between start mid calls
-      × (turns : List Turned) × Serves rule between after mid end wanted turns (Err fault)
+      (mid : Batching C) × (between : Outside) × GoesOn before between start mid calls
+      × (batches : List Batch)
+      × ServesBatches device rule between after mid end wanted batches (Err fault)
 
   -- Ok: by all calls that there are. Else by fewer, and then one that a fault ended.
-  abbrev pub ServesOn : (most : ℕ) → (before after : Outside) → (start end : Serving C)
-      → List (List Turned) → Result (Unit {0}) ServeFault → Type 0
+  abbrev pub ServesOn : (most : ℕ) → (before after : Outside) → (start end : Batching C)
+      → List (List Batch) → Result (Unit {0}) ServeFault → Type 0
   ServesOn most before after start end calls (Ok served) =
       (length calls ≡ most) × GoesOn before after start end calls
   ServesOn most before after start end calls (Err fault) =
@@ -88,19 +96,32 @@ IsConcluded old new (Err fault) answer = IsTold old new answer (stopped fault)
 
 -- A site that began so has served by these calls; and then the last line was written, if there is
 -- one.
-pub record ServedBy {C : Type 0} (rule : Rule C) (how : Turns) (before after : Outside)
-    (start : Serving C) (answer : Result ℕ ProgramFault) : Type 0 where
-  pub end : Serving C
-  pub calls : List (List Turned)
+pub record ServedBy {C : Type 0} (device : C → Device) (rule : Rule Waiting) (how : Turns)
+    (before after : Outside) (start : Batching C) (answer : Result ℕ ProgramFault) : Type 0 where
+  pub end : Batching C
+  pub calls : List (List Batch)
   pub result : Result (Unit {0}) ServeFault
   pub ended : Outside
-  pub serves : ServesOn rule (turns_in how) (most_calls how) before ended start end calls result
+  pub serves : ServesOn device rule (turns_in how) (most_calls how) before ended start end calls
+      result
   pub still : after.traffic ≡ ended.traffic
   pub concluded : IsConcluded ended.written after.written result answer
 
+-- An opened site is parted from its cell: this site, whose records wait, and has heard nothing; and
+-- this cell, which holds them all. There is no call on the cell.
+pub record IsParted {C : Type 0} (opened : OpenSite C) (site : OpenSite Waiting)
+    (held : BatchCell C) : Type 0 where
+  pub records : site.book.records ≡ opened.book.records
+  pub owner : site.book.owner ≡ opened.book.owner
+  pub waits : site.book.needs_opening ≡ false
+  pub represents : Represents site new_volatile
+  pub cell : held.cell ≡ opened.book.cell
+  pub synced : held.synced ≡ length opened.book.records
+  pub needs_opening : held.needs_opening ≡ opened.book.needs_opening
+
 -- ---- a process
 
-module _ {C : Type 0} (device : C → Device) (rule : Rule C) (owner : Owner) (how : Turns)
+module _ {C : Type 0} (device : C → Device) (rule : Rule Waiting) (owner : Owner) (how : Turns)
     (cell : C) (before after : Outside) (answer : Result ℕ ProgramFault) where
   -- no member has the number: nothing is opened
   pub record IsNoMember : Type 0 where
@@ -116,12 +137,16 @@ module _ {C : Type 0} (device : C → Device) (rule : Rule C) (owner : Owner) (h
     pub still : after.traffic ≡ before.traffic
     pub told : IsTold before.written after.written answer (unopened fault)
 
-  -- the site was opened over the cell, and has served
+  -- the site was opened over the cell, parted from it, and has served
   pub record HasServed : Type 0 where
     pub member : is_in (members_of owner.members) owner.site ≡ true
-    pub site : OpenSite C
-    pub opened : Opens device owner cell (Ok site.book)
-    pub served : ServedBy rule how before after (begins site new_volatile) answer
+    pub membership : IsMembership owner.members
+    pub opened : OpenSite C
+    pub opens : Opens device owner cell (Ok opened.book)
+    pub site : OpenSite Waiting
+    pub held : BatchCell C
+    pub parted : IsParted opened site held
+    pub served : ServedBy device rule how before after (begins_with site held new_volatile) answer
 
   abbrev pub OpensAndServes : Type 0
   OpensAndServes = IsNoMember ⊎ (IsUnopened ⊎ HasServed)

@@ -9,6 +9,7 @@
 //! ```
 #![tactic(auto)]
 
+mod heard_turns;
 mod log_file;
 mod logged_folders;
 mod logged_output;

@@ -28,17 +28,21 @@ impl<P: Port> Port for LoggedPort<'_, P> {
 
     fn receive(&mut self) -> Result<Turn, PortFault> {
         let turn = self.port.receive()?;
-        self.log.came(&turn);
+        self.log.begins_with(&turn);
         Ok(turn)
     }
 
     fn try_receive(&mut self) -> Option<Turn> {
         let turn = self.port.try_receive()?;
-        self.log.came(&turn);
+        self.log.takes_in(&turn);
         Some(turn)
     }
 
     fn send(&mut self, to: Address, bytes: &[u8]) -> Result<(), PortFault> {
         self.port.send(to, bytes)
+    }
+
+    fn will_say(&mut self, after: &[usize]) {
+        self.log.will_note(after);
     }
 }

@@ -1,5 +1,6 @@
 //! What is noted of a site, and when.
 
+use crate::heard_turns::{Heard, HeardTurns, Subject};
 use crate::log_file::LogFile;
 use crate::minute::Minute;
 use crate::moment::{end_of, minute_of, moment_text, now, text_of};
@@ -41,10 +42,8 @@ struct State {
     file: LogFile,
     /// Where the site serves; none before it does.
     place: Option<Place>,
-    /// The address from which came what the site does now; none in an idle turn.
-    from: Option<Address>,
-    /// What came.
-    bytes: Vec<u8>,
+    /// What came, and what the next line is about.
+    heard: HeardTurns,
     /// The beginning of a line of the site's that isn't ended.
     begun: String,
     /// The last line that is ended; empty before the first, and after one that couldn't be noted.
@@ -59,8 +58,7 @@ impl<'a> SiteLog<'a> {
         let state = State {
             file: LogFile::open(rt, path),
             place: None,
-            from: None,
-            bytes: Vec::new(rt.alloc()),
+            heard: HeardTurns::new(rt.alloc()),
             begun: String::new(rt.alloc()),
             last: String::new(rt.alloc()),
             minute: Minute::new(None),
@@ -133,18 +131,33 @@ impl<'a> SiteLog<'a> {
         }
     }
 
-    /// The turn brings this.
-    pub(crate) fn came(&self, turn: &Turn) {
+    /// The site waited, and this came: its next batch begins with it.
+    pub(crate) fn begins_with(&self, turn: &Turn) {
         if let Ok(mut state) = self.state.try_borrow_mut() {
             self.keep_time(&mut state);
-            take(&mut state, turn);
+            state.heard.begins(turn);
+        }
+    }
+
+    /// The site takes this in besides.
+    pub(crate) fn takes_in(&self, turn: &Turn) {
+        if let Ok(mut state) = self.state.try_borrow_mut() {
+            state.heard.joins(turn);
+        }
+    }
+
+    /// The next lines are those of the batch that was taken in, so many after each turn.
+    pub(crate) fn will_note(&self, after: &[usize]) {
+        if let Ok(mut state) = self.state.try_borrow_mut() {
+            state.heard.speaks(after);
         }
     }
 
     /// The folder that a client named can't be read, for this reason, at this place below it.
     pub(crate) fn unread(&self, fault: TreeFault, place: Option<&str>) {
         if let Ok(mut state) = self.state.try_borrow_mut() {
-            if self.admits(&mut state, Kind::Unread) {
+            let from = from_of(state.heard.taken_in());
+            if self.admits(&mut state, from, Kind::Unread) {
                 let line = self.unread_line(&state, fault, place);
                 append(self.rt, &mut state, line);
             }
@@ -176,6 +189,7 @@ impl<'a> SiteLog<'a> {
         for byte in text {
             if *byte == b'\n' {
                 self.take_line(state);
+                state.heard.line_ends();
                 std::mem::swap(&mut state.begun, &mut state.last);
                 state.begun.clear();
             } else {
@@ -187,8 +201,9 @@ impl<'a> SiteLog<'a> {
     // The line that the site has written is noted, unless there were too many of its kind. Before
     // the one that ends the site comes what was left out.
     fn take_line(&self, state: &mut State) {
+        let from = from_of(state.heard.subject().heard);
         let is_written = match Role::of(state.begun.as_str()) {
-            Role::Counted(kind) => self.admits(state, kind),
+            Role::Counted(kind) => self.admits(state, from, kind),
             Role::Known => true,
             Role::Last => {
                 self.sum_up(state);
@@ -201,10 +216,10 @@ impl<'a> SiteLog<'a> {
         }
     }
 
-    // Whether a line of this kind is written, about what came in this turn.
-    fn admits(&self, state: &mut State, kind: Kind) -> bool {
+    // Whether a line of this kind is written, about what came from there.
+    fn admits(&self, state: &mut State, from: Option<Address>, kind: Kind) -> bool {
         self.keep_time(state);
-        let sender = match state.from {
+        let sender = match from {
             Some(address) => Sender::At(address),
             None => Sender::Nobody,
         };
@@ -327,12 +342,17 @@ impl<'a> SiteLog<'a> {
         Ok(line)
     }
 
-    // The line that the site has written, and after `refused` what was asked for.
+    // The line that the site has written, and after `refused` what was asked for; where a whole batch
+    // was refused, also how many other datagrams it had.
     fn line_of(&self, state: &State) -> Result<String, AllocError> {
-        let mut line = self.heading(state.from)?;
+        let Subject { heard, others } = state.heard.subject();
+        let mut line = self.heading(from_of(heard))?;
         line.push_str(state.begun.as_str())?;
         if state.begun.as_str().starts_with("refused") {
-            self.push_request(&mut line, state)?;
+            self.push_request(&mut line, state, heard)?;
+            if others > 0 {
+                write!(line, " and {others} more")?;
+            }
         }
         Ok(line)
     }
@@ -344,23 +364,29 @@ impl<'a> SiteLog<'a> {
         fault: TreeFault,
         place: Option<&str>,
     ) -> Result<String, AllocError> {
-        let mut line = self.heading(state.from)?;
+        let heard = state.heard.taken_in();
+        let mut line = self.heading(from_of(heard))?;
         let site = self.number.number();
         let code = 20 + u32::from(fault.number());
         write!(line, "unread {site} {code}")?;
-        self.push_request(&mut line, state)?;
+        self.push_request(&mut line, state, heard)?;
         if let Some(place) = place {
             push_word(&mut line, place)?;
         }
         Ok(line)
     }
 
-    fn push_request(&self, line: &mut String, state: &State) -> Result<(), AllocError> {
-        let Some(place) = state.place else {
+    fn push_request(
+        &self,
+        line: &mut String,
+        state: &State,
+        heard: Option<&Heard>,
+    ) -> Result<(), AllocError> {
+        let (Some(place), Some(heard)) = (state.place, heard) else {
             return Ok(());
         };
         let federation = place.members.federation();
-        let request = request_text(self.rt.alloc(), federation, state.bytes.as_slice())?;
+        let request = request_text(self.rt.alloc(), federation, heard.bytes.as_slice())?;
         if request.is_empty() {
             return Ok(());
         }
@@ -388,16 +414,12 @@ fn append(rt: &HostRuntime, state: &mut State, line: Result<String, AllocError>)
     }
 }
 
-// Keeps what came, for the lines that follow. Where memory runs out they have no request.
-fn take(state: &mut State, turn: &Turn) {
-    state.bytes.clear();
-    state.from = match turn {
-        Turn::Idle => None,
-        Turn::Got(from, bytes) => {
-            let _ = state.bytes.extend_from_slice(bytes.as_slice());
-            Some(*from)
-        }
-    };
+// From where it came; from nowhere in an idle turn.
+fn from_of(heard: Option<&Heard>) -> Option<Address> {
+    match heard {
+        Some(heard) => heard.from,
+        None => None,
+    }
 }
 
 fn is_known(record: &Record) -> bool {

@@ -42,4 +42,8 @@ impl<P: Port> Port for WatchedPort<'_, P> {
         self.watch.hands(bytes);
         self.port.send(to, bytes)
     }
+
+    fn will_say(&mut self, after: &[usize]) {
+        self.port.will_say(after);
+    }
 }

@@ -26,6 +26,7 @@ use crate::deposits::reply_to_deposit;
 use crate::fault::ServeFault;
 use crate::held_port::HeldPort;
 use crate::idle_turns::IdleProgress;
+use crate::line_marks::LineMarks;
 use crate::port::Port;
 use crate::replies::deposit_answer;
 use crate::requests::{Asked, asked_by};
@@ -178,10 +179,11 @@ impl<F: Folders> Server<'_, '_, '_, '_, '_, Waiting, HeldPort, F> {
         ensures waits { self.new.site.now.book.needs_opening ≡ false }
         ensures later { P.failures port.old ≤ P.failures port.new }
     {
-        self.take_turns(batch)?;
+        let mut marks = LineMarks::new();
+        self.take_turns(batch, &mut marks)?;
         match self.site.sync(held) {
             Ok(synced) => {
-                self.port.release(synced, port)?;
+                self.port.release(synced, port, &marks)?;
                 write_lines(self.alloc, self.lines, output)
             }
             Err(CommitFault::Memory) => Err(ServeFault::Memory),
@@ -194,8 +196,9 @@ impl<F: Folders> Server<'_, '_, '_, '_, '_, Waiting, HeldPort, F> {
         }
     }
 
-    // Takes the turns of a batch: what they hand out is held, and what they say are lines.
-    fn take_turns(&mut self, batch: &[Turn]) -> Result<(), ServeFault>
+    // Takes the turns of a batch: what they hand out is held, and what they say are lines, which are
+    // marked.
+    fn take_turns(&mut self, batch: &[Turn], marks: &mut LineMarks) -> Result<(), ServeFault>
         requires idle { self.old.progress.idle + length batch.now ≤ 4294967295 }
         requires empty { posts_held self.old.port.now ≡ [] }
         ensures keeps { Keeps (λ port. 0) F.gives self.old self.new }
@@ -212,6 +215,7 @@ impl<F: Folders> Server<'_, '_, '_, '_, '_, Waiting, HeldPort, F> {
         self.lines.clear();
         for turn in batch {
             self.handle_turn(turn)?;
+            marks.turn_ends(self.lines.len());
         }
         Ok(())
     }

@@ -6,6 +6,7 @@ ghost use Rattle.udp_site.specs.inner.HeldPosts.{posts_held, post_of};
 ghost use Rattle.udp_site.specs.inner.Outcomes.{Hands};
 
 use crate::fault::ServeFault;
+use crate::line_marks::LineMarks;
 use crate::port::Port;
 use crate::port_fault::PortFault;
 use crate::sends::send;
@@ -40,11 +41,13 @@ impl HeldPort {
         }
     }
 
-    /// Hands out all that it holds at this port, in order, since the records are synced.
+    /// Hands out all that it holds at this port, in order, since the records are synced; and tells the
+    /// port which lines are to come.
     pub(crate) fn release<P: Port>(
         &mut self,
         _synced: Synced,
         port: &mut P,
+        marks: &LineMarks,
     ) -> Result<(), ServeFault>
         ensures hands { Hands (P.traffic port.old) (P.traffic port.new) (posts_held self.old)
             result }
@@ -53,6 +56,7 @@ impl HeldPort {
     {
         let handed = send_held(port, &self.posts);
         self.posts.clear();
+        port.will_say(marks.after());
         handed
     }
 }

@@ -1,4 +1,4 @@
-ghost use Rattle.std.specs.Prelude.{◌≤◌, ℕ, List, Option, None};
+ghost use Rattle.std.specs.Prelude.{◌≡◌, ◌≤◌, ℕ, List, Option, None};
 ghost use Rattle.cell_device.specs.Calls.{HasCause};
 ghost use Rattle.udp_site.specs.Traffic.{Move, IsReceived, IsTakenIn, IsHanded};
 ghost use Rattle.udp_site.specs.declared.port_fault.PortFault.TheVariants as faults;
@@ -31,4 +31,11 @@ pub trait Port {
     fn send(&mut self, to: Address, bytes: &[u8]) -> Result<(), PortFault>
         ensures handed { IsHanded (traffic self.old) (traffic self.new) (to, bytes.now) result }
         ensures cause { HasCause faults.Device (failures self.old) (failures self.new) result };
+
+    /// What is written next are the lines of a batch: how many there are after each of its turns.
+    /// A port that is logged tells its log, which says with each line what came.
+    fn will_say(&mut self, _after: &[usize])
+        ensures traffic { traffic self.new ≡ traffic self.old }
+        ensures failures { failures self.new ≡ failures self.old }
+    {}
 }

@@ -177,7 +177,7 @@ pub(crate) fn is_vote(bytes: &[u8]) -> bool
 }
 
 /// Whether a datagram that came may be a client's request to deposit a folder, by its kind.
-pub(crate) fn is_deposit(bytes: &[u8]) -> bool
+pub fn is_deposit(bytes: &[u8]) -> bool
     ensures { result ≡ is_deposit bytes.now }
 {
     kind_byte(bytes) == DEPOSIT

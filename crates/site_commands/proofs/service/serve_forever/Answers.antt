@@ -1,35 +1,43 @@
 use Rattle.std.proofs.Common.{refl, arith, ◌∙◌, subst, Ok, Err}
 use Rattle.proposer.specs.VolatileStates.{new_volatile}
+use Rattle.site.specs.Batches.{no_cell}
+use Rattle.udp_site.specs.BatchTurns.{begins_with}
 use Rattle.udp_site.specs.Served.{outside}
-use Rattle.udp_site.specs.Turns.{begins, turn_of}
+use Rattle.udp_site.specs.Turns.{turn_of}
 use Rattle.site_commands.specs.declared.site_arguments.Turns.TheVariants as how
 use Rattle.site_commands.proofs.Servings.{none_yet, one_call_more, all_calls, one_failed, CallEnds}
 use Rattle.site_commands.proofs.service.serve_forever.Goals as goal
 
 pub calls-init : goal.calls-init
 calls-init g c = record {
+  held = c.args.requires.held;
+  waits = c.args.requires.waits;
   kept = refl;
   led = λ stands.
-      none_yet (turn_of g.C.Cell.device c.args.addresses.now (g.F.Folders.gives c.args.folders.now))
-      4294967295
+      none_yet g.C.Cell.device
+      (turn_of no_cell c.args.addresses.now (g.F.Folders.gives c.args.folders.now)) 4294967295
       (outside (g.P.Port.traffic c.args.port.now) (g.W.Write.contents c.args.output.now))
-      c.args.site.now new_volatile (λ opened. stands);
+      c.args.site.now c.args.held.now new_volatile (λ opened. stands);
 }
 
 pub calls-preserved : goal.calls-preserved
 calls-preserved g c = record {
+  held = c.in-Ok.ensures.held;
+  waits = c.in-Ok.ensures.waits;
   kept = c.in-Ok.ensures.kept ∙ c.calls.invariant.kept;
   led = λ stands.
       let so_far = c.calls.invariant.led stands in
       let mid = outside (g.P.Port.traffic c.calls.port) (g.W.Write.contents c.calls.output) in
-      let after = outside (g.P.Port.traffic c.serve.new.port)
-      (g.W.Write.contents c.serve.new.output) in
+      let after = outside (g.P.Port.traffic c.serve_batches.new.port)
+      (g.W.Write.contents c.serve_batches.new.output) in
       one_call_more g.C.Cell.device c.args.addresses.now (g.F.Folders.gives c.args.folders.now)
       4294967295
       (outside (g.P.Port.traffic c.args.port.now) (g.W.Write.contents c.args.output.now)) mid after
-      (begins c.args.site.now new_volatile) c.calls.site c.serve.new.site c.calls.counter so_far
-      (subst (λ gives. CallEnds (turn_of g.C.Cell.device c.args.addresses.now gives) 4294967295 mid
-      after (begins c.calls.site so_far.volatile) c.serve.new.site (Ok tt))
+      (begins_with c.args.site.now c.args.held.now new_volatile) c.calls.site
+      c.serve_batches.new.site c.calls.held c.serve_batches.new.held c.calls.counter so_far
+      (subst (λ gives. CallEnds g.C.Cell.device (turn_of no_cell c.args.addresses.now gives)
+      4294967295 mid after (begins_with c.calls.site c.calls.held so_far.volatile)
+      c.serve_batches.new.site c.serve_batches.new.held (Ok tt))
       c.calls.invariant.kept
       (c.in-Ok.ensures.served so_far.volatile so_far.serving));
 }
@@ -40,25 +48,28 @@ returns g c stands =
     all_calls g.C.Cell.device c.args.addresses.now (g.F.Folders.gives c.args.folders.now) 4294967295
     how.Forever refl
     (outside (g.P.Port.traffic c.args.port.now) (g.W.Write.contents c.args.output.now)) now
-    (begins c.args.site.now new_volatile) c.calls.site c.calls.counter
-    (c.calls.invariant.led stands) now refl
+    (begins_with c.args.site.now c.args.held.now new_volatile) c.calls.site c.calls.held
+    c.calls.counter (c.calls.invariant.led stands) now refl
     (omega (arith, c.calls-test.false, c.calls.auto.counter-end)) (Ok 0) (refl, refl)
 
 pub returns-in-Err : goal.returns-in-Err
 returns-in-Err g c stands =
     let so_far = c.calls.invariant.led stands in
     let mid = outside (g.P.Port.traffic c.calls.port) (g.W.Write.contents c.calls.output) in
-    let ended = outside (g.P.Port.traffic c.serve.new.port)
-    (g.W.Write.contents c.serve.new.output) in
+    let ended = outside (g.P.Port.traffic c.serve_batches.new.port)
+    (g.W.Write.contents c.serve_batches.new.output) in
     one_failed g.C.Cell.device c.args.addresses.now (g.F.Folders.gives c.args.folders.now)
     4294967295
     how.Forever refl
     (outside (g.P.Port.traffic c.args.port.now) (g.W.Write.contents c.args.output.now)) mid
-    (begins c.args.site.now new_volatile) c.calls.site c.calls.counter so_far c.in-Err.fault ended
-    (outside (g.P.Port.traffic c.serve.new.port) (g.W.Write.contents c.write_stopped.new.output))
-    c.serve.new.site
-    (subst (λ gives. CallEnds (turn_of g.C.Cell.device c.args.addresses.now gives) 4294967295 mid
-    ended (begins c.calls.site so_far.volatile) c.serve.new.site (Err c.in-Err.fault))
+    (begins_with c.args.site.now c.args.held.now new_volatile) c.calls.site c.calls.held
+    c.calls.counter so_far c.in-Err.fault ended
+    (outside (g.P.Port.traffic c.serve_batches.new.port)
+    (g.W.Write.contents c.write_stopped.new.output))
+    c.serve_batches.new.site c.serve_batches.new.held
+    (subst (λ gives. CallEnds g.C.Cell.device (turn_of no_cell c.args.addresses.now gives)
+    4294967295 mid ended (begins_with c.calls.site c.calls.held so_far.volatile)
+    c.serve_batches.new.site c.serve_batches.new.held (Err c.in-Err.fault))
     c.calls.invariant.kept
     (c.in-Err.ensures.served so_far.volatile so_far.serving))
     (omega (arith, c.calls-test.true)) refl c.write_stopped.result c.write_stopped.ensures
