@@ -1,6 +1,7 @@
 -- The account of a member whose process serves.
-use Rattle.std.proofs.Common.{◌≡◌, ◌≤◌, ℕ, ◌-◌, ◌+◌, false, List, [], ◌∷◌, ◌++◌, length, take, drop, Option}
-use Rattle.std.proofs.Common.{Some, true, refl, sym, ap, subst, ◌∙◌, append-nil, append_assoc, take_all}
+use Rattle.std.proofs.Common.{◌≡◌, ◌≤◌, ℕ, ◌-◌, ◌+◌, false, List, [], ◌∷◌, ◌++◌, length, take}
+use Rattle.std.proofs.Common.{drop, Option, Some, true, refl, sym, ap, subst, ◌∙◌, append-nil}
+use Rattle.std.proofs.Common.{append_assoc, take_all}
 use Rattle.std.proofs.Common.{take-add, arith}
 use Rattle.std.specs.Prelude.{Result, Ok, Err, IsSome}
 use Rattle.std.proofs.lemmas.List.Concat.{flat_map-append}
@@ -230,7 +231,8 @@ module _ {C : Type 0} (device : C → Device) (members : Membership)
             (append-nil batch.turns) (append-nil (take handed (posts_of batch.turns)))
             (append-nil (take written (text_of_all batch.turns)))
             (turns_told members is_membership n has addresses gives batch.turns mid.serving
-            next.serving handed written made.follow stands.whose stands.opened then.are left [] [] []
+            next.serving handed written made.follow stands.whose stands.opened then.are left [] []
+            []
             (ended members is_membership n has addresses gives next.serving left
             (same_left device owner tells only_now next then left may) then.whose then.are));
       }

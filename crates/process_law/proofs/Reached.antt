@@ -278,7 +278,8 @@ module _ {C : Type 0} (device : C → Device) (rule : Rule Waiting) (owner : Own
     last = Quiet [];
     is_last = (refl, may);
     shows =
-        subst (λ (bs : List Batch). Shows before after bs [] []) (sym (append-nil (all_batches calls)))
+        subst (λ (bs : List Batch). Shows before after bs [] [])
+        (sym (append-nil (all_batches calls)))
         (went_shows wanted before after start end calls goes_on);
   }
   reached wanted most before after start end calls (Err fault) left may

@@ -1,5 +1,5 @@
--- An account from here on, until the member is down: each happening that comes before makes a longer
--- one.
+-- An account from here on, until the member is down: each happening that comes before makes a
+-- longer one.
 use Rattle.std.proofs.Common.{◌≡◌, ℕ, false, ◌-◌, List, [], ◌∷◌, ◌++◌, length, take, Option}
 use Rattle.std.proofs.Common.{refl, sym, ap, subst, ◌∙◌, append_assoc}
 use Rattle.std.specs.Prelude.{Result}

@@ -29,7 +29,8 @@ use Rattle.site.specs.Sites.{OpenSite}
 use Rattle.udp_site.specs.Traffic.{Post, Taken, Move, Took, Failed, Handed, Grows, all_handed}
 use Rattle.udp_site.specs.Turns.{turn_of}
 use Rattle.udp_site.specs.Served.{Rule, Outside, Turned, text_of}
-use Rattle.udp_site.specs.BatchTurns.{Batch, Batching, Batches, Lead, begins_with, moves_in, moves_of}
+use Rattle.udp_site.specs.BatchTurns.{Batch, Batching, Batches, Lead, begins_with, moves_in}
+use Rattle.udp_site.specs.BatchTurns.{moves_of}
 use Rattle.udp_site.specs.BatchTurns.{took_by, posts_of, text_of_all, refusal_of, refusals}
 use Rattle.udp_site.specs.BatchTurns.{refusal_text, turns_of as turns_of_batches}
 use Rattle.site_commands.specs.declared.site_arguments.Turns.{Turns}
@@ -44,10 +45,10 @@ use Rattle.register_law.specs.Overlaps.{own_after, member_at, handed_out, IsAcco
 
 -- ---- how far a process has come
 
--- What a process did after its last batch of which all was told. Quiet: it made these moves, and no
--- call on its cell. Unsynced: it made a batch whose sync wasn't done, and told nothing of it, but
--- these datagrams and this text, which say that. Synced: it made a batch, and handed out the first
--- so many of its datagrams, and wrote the first so many bytes of its lines.
+-- What a process did after its last batch of which all was told. Quiet: it made these moves, handed
+-- nothing out, and made no call on its cell. Unsynced: it made a batch whose sync wasn't done, and
+-- told nothing of it, but these datagrams and this text, which say that. Synced: it made a batch,
+-- handed out the first so many of its datagrams, and wrote the first so many bytes of its lines.
 pub data Last : Type 0 where
   Quiet : List Move → Last
   Unsynced : Batch → (refused : List Post) → (said : List ℕ) → Last
@@ -66,7 +67,7 @@ last_text (Quiet moves) = []
 last_text (Unsynced batch refused said) = said
 last_text (Synced batch handed written) = take written (text_of_all batch.turns)
 
--- nothing is handed out by these moves
+-- what is handed out by these moves, in order
 abbrev pub handed_by : List Move → List Post
 handed_by [] = []
 handed_by (Took taken ∷ moves) = handed_by moves
@@ -172,7 +173,8 @@ text_in account = flat_map (λ h. text_shown (showing_of h)) account
 -- first turns, those that made the records that are left; or all turns of one that was
 abbrev pub AreOfLast : Last → List Turned → Type 0
 AreOfLast (Quiet moves) turns = turns ≡ []
-AreOfLast (Unsynced batch refused said) turns = (later : List Turned) × (turns ++ later ≡ batch.turns)
+AreOfLast (Unsynced batch refused said) turns =
+    (later : List Turned) × (turns ++ later ≡ batch.turns)
 AreOfLast (Synced batch handed written) turns = turns ≡ batch.turns
 
 -- and what these hand out and write
@@ -196,7 +198,8 @@ module _ (members : Membership) (n : ℕ) (addresses : List ℕ)
   -- its addresses are these, and its folders give what it is known that they give
   abbrev pub IsWith : Option (ℕ × Step Disk) → Type 0
   IsWith None = ⊤
-  IsWith (Some (m, step)) = (step.addresses ≡ addresses) × IfSome gives (λ answer. step.folders ≡ answer)
+  IsWith (Some (m, step)) =
+      (step.addresses ≡ addresses) × IfSome gives (λ answer. step.folders ≡ answer)
 
   abbrev pub IsOf : Happening Disk → Type 0
   IsOf h = (member_at h ≡ n) × IsWith (step_of h)
@@ -246,8 +249,8 @@ module _ {C : Type 0} (device : C → Device) (members : Membership) where
       before process.served.ended left)
       × (come.opened ≡ process.opened) × (come.calls ≡ process.served.calls)
 
-  -- Let a cell say these records, as its member was left; and a process come so far over it, and end
-  -- then or be killed. That is an account of the member, of this process.
+  -- Let a cell say these records, as its member was left; and a process come so far over it, and
+  -- end then or be killed. That is an account of the member, of this process.
   abbrev pub ProcessesHaveAccounts : Type 0
   ProcessesHaveAccounts =
       (n : ℕ) (addresses : List ℕ) (gives : Option (List ℕ → Result TreeFacts TreeFault))

@@ -7,15 +7,15 @@ use cell_device::Cell;
 // A function here does nothing: its contract is the law.
 
 /// A process that has come so far, and ends or is killed then, makes an account of its member: over
-/// any cell that tells its bytes, at any moment after its start, in a sync or between two, and after
-/// any part of what a batch hands out and writes.
+/// any cell that tells its bytes, at any moment after its start, in a sync or between two, and
+/// after any part of what a batch hands out and writes.
 pub fn processes_have_accounts<C: Cell>()
     ensures { (members : Membership) → ProcessesHaveAccounts C.device members }
 {}
 
 /// What `site_commands::open_and_serve` does, by its contract, is to come so far. So of a process
-/// that is killed all that has to be believed is that it did a beginning of what a process does that
-/// returns.
+/// that is killed all that has to be believed is that it did a beginning of what a process does
+/// that returns.
 pub fn processes_come_so_far<C: Cell>()
     ensures { (members : Membership) → ProcessesComeSoFar C.device members }
 {}

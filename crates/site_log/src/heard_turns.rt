@@ -62,8 +62,8 @@ impl HeardTurns {
     /// The lines of the batch that was taken in are written next. There are so many after each of its
     /// turns.
     pub(crate) fn speaks(&mut self, after: &[usize]) {
-        let later = self.heard.split_off(self.marks.len());
-        match later {
+        let told = self.marks.len().min(self.heard.len());
+        match self.heard.split_off(told) {
             Ok(later) => self.heard = later,
             Err(AllocError) => self.heard.clear(),
         }
