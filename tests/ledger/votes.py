@@ -6,17 +6,35 @@ from typing import NamedTuple
 
 import journal
 
-# The most records that a site may have appended and not synced.
-UNSYNCED = 1
+# The most records that a site may have appended and not synced: those of a batch.
+UNSYNCED = 64
 
 
 class Cell(NamedTuple):
-    """A cell at a path; whether a site holds its lock, and whether its file can be synced."""
+    """A cell at a path; whether a site holds its lock, and how many bytes are synced, where that
+    site says so; and whether its file can be synced."""
 
     path: object
     bytes: bytes
     in_use: bool = False
     syncs: bool = True
+    synced: object = None
+
+    def sure(self, records):
+        """How many of these records are sure to outlive a crash."""
+        if not self.in_use:
+            return records
+        return max(records - UNSYNCED, self.within())
+
+    def within(self):
+        """How many records end within what the site says is synced: none, where the cell has
+        fewer bytes, or no record or header ends there."""
+        if self.synced is None or self.synced > len(self.bytes):
+            return 0
+        lines, _ = journal.journal(self.bytes[: self.synced])
+        if not lines or re.match("torn|damaged|open", lines[-1]):
+            return 0
+        return len(lines) - 1
 
 
 class Version:
@@ -75,8 +93,7 @@ class Audit:
             return
         if ending.startswith("damaged"):
             self.defects.append(f"damaged {path} {ending.split()[1]}")
-        kept = len(records) - (UNSYNCED if cell.in_use else 0)
-        for line in records[: max(kept, 0)]:
+        for line in records[: cell.sure(len(records))]:
             kind, object, version, *words = line.split(" ")
             slot = self.versions.setdefault(f"{object} {version}", Version())
             slot.hears(int(head.split()[2]), kind, words)

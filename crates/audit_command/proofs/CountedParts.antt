@@ -1,7 +1,8 @@
 -- What is counted of a cell, part by part.
-use Rattle.std.proofs.Common.{◌≡◌, ◌⊎◌, ℕ, List, [], ◌++◌, Option, None, Some, refl, sym}
+use Rattle.std.proofs.Common.{◌≡◌, ◌≢◌, ◌⊎◌, ◌+◌, ◌-◌, ℕ, List, [], ◌++◌, length, take, Option}
+use Rattle.std.proofs.Common.{None, Some, refl, sym}
 use Rattle.std.proofs.Common.{ap, ◌∙◌, subst, inl, inr, append_assoc, append-nil, true}
-use Rattle.std.proofs.lemmas.List.{map-append}
+use Rattle.std.proofs.lemmas.List.{map-append, length-append}
 use Rattle.std.specs.Prelude.{IsSome, is_some, IfOk, Result, Ok, Err}
 use Rattle.std.specs.declared.alloc.AllocError.{AllocError}
 use Rattle.std.specs.Option.{option_or}
@@ -23,12 +24,18 @@ use Rattle.audit_command.specs.declared.cell_reading.CellReading.{CellReading}
 use Rattle.audit_command.specs.declared.evidence.Evidence.{Evidence}
 use Rattle.audit_command.specs.declared.standing.Standing.{Standing}
 use Rattle.audit_command.specs.declared.standing.Standing.TheVariants.{Unknown, Member, Foreign}
-use Rattle.audit_command.specs.CellReadings.{IsMembers, IsReadingOf, all_but, damage_of, head_of}
-use Rattle.audit_command.specs.CellReadings.{of_site}
+use Rattle.audit_command.specs.declared.mark.Mark.{Mark}
+use Rattle.audit_command.specs.declared.mark.Mark.TheVariants.{Ahead}
+use Rattle.audit_command.specs.declared.sync_rule.SyncRule.{SyncRule}
+use Rattle.audit_command.specs.CellReadings.{IsMembers, IsReadingOf, AreSynced, damage_of, head_of}
+use Rattle.audit_command.specs.CellReadings.{of_site, sure_of}
 use Rattle.audit_command.specs.inner.Gathered.{IsEvidence}
 use Rattle.audit_command.specs.inner.Standings.{IsStanding, IsStandingAfter, HasStanding, IsSplit}
 use Rattle.audit_command.specs.inner.Standings.{counted_as, fault_of, HasCounted, IsCounted}
-use Rattle.audit_command.specs.inner.Standings.{IsLastCounted, IsPartCounted}
+use Rattle.audit_command.specs.inner.Standings.{IsLastCounted, IsPartCounted, IsPartTaken, Adds}
+use Rattle.audit_command.specs.inner.Marks.{IsMark, begins, more_synced}
+use Rattle.audit_command.proofs.Marks.{EndsAtMark, mark_begins, mark_counted, end_mark}
+use Rattle.audit_command.proofs.Marks.{end_counted_on}
 use Rattle.audit_command.proofs.SplitRecords.{none_split, split_on, split_is, nothing_sure}
 
 -- ---- records are told of a cell alone whose head is
@@ -177,29 +184,31 @@ in_two members evidence given first next all is h =
     (subst (IsEvidence members evidence) (append_assoc given first next) h)
 
 -- a cell of which nothing was read
-pub none_read : (members : Membership) (unsure : ℕ) (evidence : Evidence)
+pub none_read : (members : Membership) (rule : SyncRule) (evidence : Evidence)
     (given : List SiteRecord) (reading : CellReading) → reading.standing ≡ Unknown
-    → HasTold reading.reader [] nothing → reading.last.unsure ≡ unsure
-    → reading.last.records.items ≡ [] → IsEvidence members evidence given
-    → HasCounted members unsure reading evidence [] given
-none_read members unsure evidence given reading is told most none h = (
+    → HasTold reading.reader [] nothing → reading.last.unsure ≡ rule.most_unsynced
+    → reading.last.records.items ≡ [] → reading.mark ≡ begins rule.synced
+    → IsEvidence members evidence given
+    → HasCounted members rule reading evidence [] given
+none_read members rule evidence given reading is told most none mark h = (
   nothing,
   [],
   record {
     told_is = told;
     standing_is = subst (HasStanding members nothing) (sym is) refl;
     unsure_is = most;
-    split = none_split unsure reading.last.records.items none;
+    split = none_split rule.most_unsynced reading.last.records.items none;
+    mark_is = subst (IsMark rule.synced [] 0) (sym mark) (mark_begins rule.synced);
     counted =
         subst (λ (s : Standing). IsEvidence members evidence (given ++ counted_as s [])) (sym is)
         (subst (IsEvidence members evidence) (sym (append-nil given)) h);
   },
 )
 
--- a part was counted, after which the reader is this one
-module _ (members : Membership) (unsure : ℕ) (old new : Evidence) (taken : List ℕ)
+-- a part was counted, after which the reader is this one, and the mark, before, this one
+module _ (members : Membership) (rule : SyncRule) (old new : Evidence) (taken : List ℕ)
     (given : List SiteRecord) (before : CellReading)
-    (had : HasCounted members unsure before old taken given) (reader : CellReader)
+    (had : HasCounted members rule before old taken given) (reader : CellReader) (mark : Mark)
     (after : CellReading) where
   abbrev told : Told
   told = had.0
@@ -208,7 +217,12 @@ module _ (members : Membership) (unsure : ℕ) (old new : Evidence) (taken : Lis
   sure = had.1
 
   abbrev between : CellReading
-  between = record { reader = reader; standing = before.standing; last = before.last }
+  between = record {
+    reader = reader;
+    standing = before.standing;
+    last = before.last;
+    mark = mark;
+  }
 
   is_named : IsNamed told
   is_named = named_so_far before.reader.owner before.reader.passed before.reader.bytes.items taken
@@ -218,40 +232,49 @@ module _ (members : Membership) (unsure : ℕ) (old new : Evidence) (taken : Lis
   abbrev now_told : Part → Told
   now_told part = and_part told part
 
-  record IsCountedWith (part : Part) (all : List Record) : Type 0 where
+  record IsTakenWith (part : Part) (more : List Record) : Type 0 where
     standing_is : HasStanding members (now_told part) after.standing
-    unsure_is : after.last.unsure ≡ unsure
-    split : IsSplit unsure (now_told part).records all after.last.records.items
-    counted : IsEvidence members new (given ++ counted_as after.standing all)
+    same : counted_as before.standing sure ≡ counted_as after.standing sure
+    unsure_is : after.last.unsure ≡ rule.most_unsynced
+    split : IsSplit rule.most_unsynced (now_told part).records (sure ++ more)
+        after.last.records.items
 
   with_part : (part : Part) (more : List Record) → Fits told part → IsSound (now_told part)
-      → IsPartCounted members old new between after part more
-      → IsCountedWith part (sure ++ more)
+      → IsPartTaken members between after part more → IsTakenWith part more
   with_part part more fits sound h =
       let is = next_part members told part.records.items sure
-      (λ none. nothing_sure unsure told.records sure before.last.records.items
+      (λ none. nothing_sure rule.most_unsynced told.records sure before.last.records.items
       (ap (λ (t : Told). t.records) none) had.2.split)
       before.standing after.standing part.head had.2.standing_is is_named fits sound
       h.standing_is in
       record {
         standing_is = is.0;
+        same = is.1;
         unsure_is = h.unsure_is ∙ had.2.unsure_is;
-        split = split_on unsure told.records sure before.last.records.items part.records.items more
-            after.last.records.items had.2.split
+        split = split_on rule.most_unsynced told.records sure before.last.records.items
+            part.records.items more after.last.records.items had.2.split
             (subst (λ (n : ℕ). IsSplit n (before.last.records.items ++ part.records.items) more
             after.last.records.items) had.2.unsure_is h.split);
-        counted = in_two members new given (counted_as before.standing sure)
-            (counted_as after.standing more) (counted_as after.standing (sure ++ more))
-            (more_counted after.standing sure more
-            ∙ ap (λ (first : List SiteRecord). first ++ counted_as after.standing more)
-            (sym is.1)) (h.counted members _ had.2.counted);
       }
 
+  -- those that were counted before, and these
+  counted_with : (more : List Record)
+      → counted_as before.standing sure ≡ counted_as after.standing sure
+      → Adds old new (counted_as after.standing more)
+      → IsEvidence members new (given ++ counted_as after.standing (sure ++ more))
+  counted_with more same adds =
+      in_two members new given (counted_as before.standing sure) (counted_as after.standing more)
+      (counted_as after.standing (sure ++ more))
+      (more_counted after.standing sure more
+      ∙ ap (λ (first : List SiteRecord). first ++ counted_as after.standing more) (sym same))
+      (adds members _ had.2.counted)
+
   pub part_counted : (bytes : List ℕ) (part : Part)
+      → IsMark rule.synced bytes (length sure) mark
       → Fits told part × HasTold reader bytes (and_part told part)
       → (more : List Record) × IsPartCounted members old new between after part more
-      → HasCounted members unsure after new bytes given
-  part_counted bytes part tells (more, h) =
+      → HasCounted members rule after new bytes given
+  part_counted bytes part marked tells (more, (h, adds)) =
       let sound = sound_so_far (now_told part) (named_so_far reader.owner reader.passed
       reader.bytes.items bytes (now_told part) tells.1) in
       let is = with_part part more tells.0 sound h in (
@@ -263,29 +286,45 @@ module _ (members : Membership) (unsure : ℕ) (old new : Evidence) (taken : Lis
           standing_is = is.standing_is;
           unsure_is = is.unsure_is;
           split = is.split;
-          counted = is.counted;
+          mark_is =
+              subst (λ (n : ℕ). IsMark rule.synced bytes n after.mark)
+              (sym (length-append sure more))
+              (subst (IsMark rule.synced bytes (length sure + length more)) (sym h.mark_is)
+              (mark_counted rule.synced bytes (length sure) (length more) mark marked));
+          counted = counted_with more is.same adds;
         },
       )
 
-  -- and the last one
+  -- and the last one, where the cell ends
   pub last_counted : (bytes : List ℕ) (last : LastPart) (fault : Option CellDefect)
+      → EndsAtMark rule.synced bytes (length sure) mark
       → TellsLast bytes told last
       → IsLastCounted members old new between after last fault
-      → IsCounted members unsure new bytes given fault
-  last_counted bytes last fault tells ((more, h), is_fault) =
+      → IsCounted members rule new bytes given fault
+  last_counted bytes last fault marked tells (more, h, adds, is_fault) =
       let all = now_told last.part in
       let is = with_part last.part more tells.0 (all_told bytes all last.ending tells.1) h in
-      let counted : sure ++ more ≡ all_but unsure all.records =
-      split_is unsure all.records (sure ++ more) after.last.records.items is.split in (
-        counted_as after.standing (sure ++ more),
+      let last_records = after.last.records.items in
+      let more_marked = subst (EndsAtMark rule.synced bytes (length sure + length more))
+      (sym h.mark_is)
+      (end_counted_on rule.synced bytes (length sure) (length more) mark marked) in
+      let n = more_marked.0 in
+      let synced = take (more_synced after.mark) last_records in
+      let counted : sure ++ (more ++ synced) ≡ sure_of n rule.most_unsynced all.records =
+      sym (append_assoc sure more synced)
+      ∙ ap (λ (k : ℕ). (sure ++ more) ++ take k last_records)
+      (more_marked.2 ∙ ap (λ (k : ℕ). n - k) (sym (length-append sure more)))
+      ∙ split_is n rule.most_unsynced all.records (sure ++ more) last_records is.split in (
+        counted_as after.standing (sure ++ (more ++ synced)),
         subst
-            (λ (f : Option CellDefect). IsReadingOf members unsure bytes f
-            (counted_as after.standing (sure ++ more))) (sym is_fault)
+            (λ (f : Option CellDefect). IsReadingOf members rule bytes f
+            (counted_as after.standing (sure ++ (more ++ synced)))) (sym is_fault)
             (subst
-            (λ (rs : List Record). IsReadingOf members unsure bytes
+            (λ (rs : List Record). IsReadingOf members rule bytes
             (fault_of after.standing last.ending) (counted_as after.standing rs)) (sym counted)
-            (read members unsure bytes all last.ending after.standing tells.1 is.standing_is)),
-        is.counted,
+            (read members n bytes all last.ending after.standing more_marked.1 tells.1
+            is.standing_is)),
+        counted_with (more ++ synced) is.same adds,
       )
     where
       no_head : (all : Told) (head : Head) → all ≡ nothing → all.head ≡ Some head → ⊥
@@ -296,34 +335,39 @@ module _ (members : Membership) (unsure : ℕ) (old new : Evidence) (taken : Lis
       same_head all head said t its =
           some_is head (head_of said) (sym its ∙ ap (λ (t : Told). t.head) t)
 
-      read : (members : Membership) (unsure : ℕ) (bytes : List ℕ) (all : Told) (ending : Ending)
-          (standing : Standing) → IsWhole bytes all ending → HasStanding members all standing
-          → IsReadingOf members unsure bytes (fault_of standing ending)
-          (counted_as standing (all_but unsure all.records))
-      read members unsure bytes all ending Unknown (inl (said, is, e, t)) none =
+      read : (members : Membership) (n : ℕ) (bytes : List ℕ) (all : Told) (ending : Ending)
+          (standing : Standing) → AreSynced rule.synced bytes n → IsWhole bytes all ending
+          → HasStanding members all standing
+          → IsReadingOf members rule bytes (fault_of standing ending)
+          (counted_as standing (sure_of n rule.most_unsynced all.records))
+      read members n bytes all ending Unknown synced (inl (said, is, e, t)) none =
           absurd (cc (sym (ap (λ (t : Told). t.head) t) ∙ ap (λ (t : Told). t.head) none))
-      read members unsure bytes all ending (Member site) (inl (said, is, e, t))
+      read members n bytes all ending (Member site) synced (inl (said, is, e, t))
           (head, its, (its_members, of)) =
           let same = same_head all head said t its in
           let records : all.records ≡ said.records = ap (λ (t : Told). t.records) t in
           inr (
             said,
+            n,
             is,
+            synced,
             inl (
               subst (IsMembers members (head_of said)) records
                   (subst (λ (h : Head). IsMembers members h all.records) same its_members),
               ap damage_of (sym e),
-              ap (λ (n : ℕ). of_site n (all_but unsure all.records))
+              ap (λ (k : ℕ). of_site k (sure_of n rule.most_unsynced all.records))
                   (of ∙ ap (λ (h : Head). h.owner.site) same)
-                  ∙ ap (λ (rs : List Record). of_site said.owner.site (all_but unsure rs)) records,
+                  ∙ ap (λ (rs : List Record). of_site said.owner.site (sure_of n rule.most_unsynced rs)) records,
             ),
           )
-      read members unsure bytes all ending Foreign (inl (said, is, e, t)) (head, its, not) =
+      read members n bytes all ending Foreign synced (inl (said, is, e, t)) (head, its, not) =
           let same = same_head all head said t its in
           let records : all.records ≡ said.records = ap (λ (t : Told). t.records) t in
           inr (
             said,
+            n,
             is,
+            synced,
             inr (
               λ its_members. not
                   (subst (λ (h : Head). IsMembers members h all.records) (sym same)
@@ -332,11 +376,11 @@ module _ (members : Membership) (unsure : ℕ) (old new : Evidence) (taken : Lis
               refl,
             ),
           )
-      read members unsure bytes all ending Unknown (inr (no_owner, ends, t)) none =
+      read members n bytes all ending Unknown synced (inr (no_owner, ends, t)) none =
           inl (no_owner, (refl, refl))
-      read members unsure bytes all ending (Member site) (inr (no_owner, ends, t)) (head, its, h) =
+      read members n bytes all ending (Member site) synced (inr (no_owner, ends, t)) (head, its, h) =
           absurd (no_head all head t its)
-      read members unsure bytes all ending Foreign (inr (no_owner, ends, t)) (head, its, h) =
+      read members n bytes all ending Foreign synced (inr (no_owner, ends, t)) (head, its, h) =
           absurd (no_head all head t its)
 
 -- of a damaged cell something is amiss
@@ -352,15 +396,17 @@ damage_amiss standing ending (place, is) =
 
 -- where the cell ends
 pub end_counted : (members : Membership) (old new : Evidence) (before after : CellReading)
-    (last : LastPart)
+    (last : LastPart) → before.mark ≢ Ahead 0
     → ((taken : List ℕ) (told : Told) → HasTold before.reader taken told
     → TellsLast taken told last)
     → (result : Result (Option CellDefect) AllocError)
     → IfOk result (IsLastCounted members old new before after last)
-    → IfOk result (λ fault. (unsure : ℕ) (taken : List ℕ) (given : List SiteRecord)
-    → HasCounted members unsure before old taken given
-    → IsCounted members unsure new taken given fault)
-end_counted members old new before after last tells (Err e) h = tt
-end_counted members old new before after last tells (Ok fault) h = λ unsure taken given had.
-    last_counted members unsure old new taken given before had before.reader after taken last fault
+    → IfOk result (λ fault. (rule : SyncRule) (taken : List ℕ) (given : List SiteRecord)
+    → HasCounted members rule before old taken given
+    → IsCounted members rule new taken given fault)
+end_counted members old new before after last some tells (Err e) h = tt
+end_counted members old new before after last some tells (Ok fault) h = λ rule taken given had.
+    last_counted members rule old new taken given before had before.reader before.mark after taken
+    last fault
+    (end_mark rule.synced taken (length had.1) before.mark some had.2.mark_is)
     (tells taken had.0 had.2.told_is) h

@@ -6,3 +6,5 @@ pub mod TakenBytes
 pub mod WrittenAnswers
 pub mod Conflicts
 pub mod Mentions
+pub mod Marks
+pub mod FirstBytes

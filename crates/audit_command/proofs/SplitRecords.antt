@@ -1,10 +1,11 @@
 -- Records of which the last are set apart.
 use Rattle.std.proofs.Common.{◌≡◌, ◌-◌, ◌+◌, ℕ, List, [], ◌∷◌, ◌++◌, length, take, refl, sym, ap}
 use Rattle.std.proofs.Common.{append_assoc, arith, ◌∙◌}
+use Rattle.std.specs.Prelude.{max}
 use Rattle.std.proofs.lemmas.List.{length-append}
-use Rattle.std.proofs.Math.Seq.{take-append_seam}
+use Rattle.std.proofs.Math.Seq.{take-append-add}
 use Rattle.records.specs.declared.record.Record.{Record}
-use Rattle.audit_command.specs.CellReadings.{all_but}
+use Rattle.audit_command.specs.CellReadings.{sure_of}
 use Rattle.audit_command.specs.inner.Standings.{IsSplit}
 
 -- of no records none is set apart
@@ -17,13 +18,14 @@ pub nothing_sure : (unsure : ℕ) (records sure last : List Record) → records 
 nothing_sure unsure records [] last none split = refl
 nothing_sure unsure records (r ∷ sure) last none split = absurd (cc (sym none ∙ split.parts_are))
 
--- what isn't set apart is all but the last
-pub split_is : (unsure : ℕ) (records sure last : List Record) → IsSplit unsure records sure last
-    → sure ≡ all_but unsure records
-split_is unsure records sure last split =
-    sym (take-append_seam sure last)
-    ∙ ap (λ (n : ℕ). take n (sure ++ last)) split.length_is
-    ∙ ap (take (length records - unsure)) (sym split.parts_are)
+-- those that are set apart, and so many of the last, are the sure ones
+pub split_is : (first unsure : ℕ) (records sure last : List Record)
+    → IsSplit unsure records sure last
+    → sure ++ take (first - length sure) last ≡ sure_of first unsure records
+split_is first unsure records sure last split =
+    sym (take-append-add sure last (first - length sure))
+    ∙ ap (λ (n : ℕ). take n (sure ++ last)) (omega (arith, split.length_is))
+    ∙ ap (take (max first (length records - unsure))) (sym split.parts_are)
 
 -- with the next records some more of them are sure
 pub split_on : (unsure : ℕ) (records sure last next more left : List Record)

@@ -1,12 +1,14 @@
 -- What was read of a file.
 use Rattle.std.proofs.Common.{◌≡◌, ◌≢◌, ◌<◌, ℕ, zero, suc, List, [], ◌++◌, length, take, Option}
 use Rattle.std.proofs.Common.{None, Some, Bool, true, false, refl, sym, ap, subst, ◌∙◌}
-use Rattle.std.proofs.Common.{append_assoc, append-nil, IfSome}
+use Rattle.std.proofs.Common.{append_assoc, append-nil, IfSome, ◌≤◌}
+use Rattle.std.proofs.lemmas.List.{take-append-le}
 use Rattle.std.specs.Prelude.{IsSome, IfOk, Result, Ok, Err}
 use Rattle.fed_types.specs.Sites.{Membership}
 use Rattle.audit.specs.Evidence.{SiteRecord}
 use Rattle.audit_command.specs.declared.cell_defect.CellDefect.{CellDefect}
 use Rattle.audit_command.specs.declared.evidence.Evidence.{Evidence}
+use Rattle.audit_command.specs.declared.sync_rule.SyncRule.{SyncRule}
 use Rattle.audit_command.specs.CellReadings.{IsReadingOf, IsReadingOfBytes, or_unread}
 use Rattle.audit_command.specs.Files.{FileBytes, Gives, with_bytes}
 use Rattle.audit_command.specs.inner.Gathered.{IsEvidence}
@@ -47,19 +49,19 @@ module _ (now after : Option FileBytes) (taken piece : List ℕ) where
       → file.bytes ≡ taken
   all_of file rest none is = is ∙ ap (λ (b : List ℕ). taken ++ b) none ∙ append-nil taken
 
-  module _ (members : Membership) (unsure : ℕ) (evidence : Evidence) (given : List SiteRecord)
+  module _ (members : Membership) (rule : SyncRule) (evidence : Evidence) (given : List SiteRecord)
     where
       -- what the end of a cell gives
       abbrev IsFileCounted : Option FileBytes → Option CellDefect → Type 0
       IsFileCounted first fault =
           (counted : List SiteRecord)
-          × IfSome first (λ file. IsReadingOfBytes members unsure file fault counted)
+          × IfSome first (λ file. IsReadingOfBytes members rule file fault counted)
           × IsEvidence members evidence (given ++ counted)
 
       -- the file has ended
       pub ended : (first : Option FileBytes) (fault : Option CellDefect) → IsTaken first now taken
           → 0 < length piece → IfSome now (λ file. Gives file piece (Some 0) after)
-          → IsCounted members unsure evidence taken given fault → IsFileCounted first fault
+          → IsCounted members rule evidence taken given fault → IsFileCounted first fault
       ended None fault h some gives (counted, reading, is) = (counted, tt, is)
       ended (Some file) fault (rest, bytes, now_is) some gives (counted, reading, is) =
           let end = subst (λ (o : Option FileBytes). IfSome o
@@ -67,7 +69,7 @@ module _ (now after : Option FileBytes) (taken piece : List ℕ) where
             counted,
             (
               fault,
-              subst (λ (b : List ℕ). IsReadingOf members unsure b fault counted)
+              subst (λ (b : List ℕ). IsReadingOf members rule b fault counted)
                   (sym (all_of file rest end.0 bytes)) reading,
               ap (λ (whole : Bool). or_unread whole fault) (sym end.1),
             ),
@@ -77,7 +79,7 @@ module _ (now after : Option FileBytes) (taken piece : List ℕ) where
       -- reading it failed
       pub failed : (first : Option FileBytes) (fault : Option CellDefect) → IsTaken first now taken
           → IfSome now (λ file. Gives file piece None after)
-          → IsUnreadCounted members unsure evidence taken given fault → IsFileCounted first fault
+          → IsUnreadCounted members rule evidence taken given fault → IsFileCounted first fault
       failed None fault h gives (found, (counted, reading, is), fault_is) = (counted, tt, is)
       failed (Some file) fault (rest, bytes, now_is) gives
           (found, (counted, reading, is), fault_is) =
@@ -86,7 +88,7 @@ module _ (now after : Option FileBytes) (taken piece : List ℕ) where
             counted,
             (
               found,
-              subst (λ (b : List ℕ). IsReadingOf members unsure b found counted)
+              subst (λ (b : List ℕ). IsReadingOf members rule b found counted)
                   (sym (all_of file rest end.0 bytes)) reading,
               fault_is ∙ ap (λ (whole : Bool). or_unread whole found) (sym end.1),
             ),
@@ -94,21 +96,21 @@ module _ (now after : Option FileBytes) (taken piece : List ℕ) where
           )
 
 -- something is amiss, whatever follows
-pub amiss : (members : Membership) (unsure : ℕ) (evidence : Evidence) (given : List SiteRecord)
+pub amiss : (members : Membership) (rule : SyncRule) (evidence : Evidence) (given : List SiteRecord)
     (first now : Option FileBytes) (taken : List ℕ) (fault : Option CellDefect)
     → IsTaken first now taken → IsSome fault
-    → ((more : List ℕ) → IsCounted members unsure evidence (taken ++ more) given fault)
+    → ((more : List ℕ) → IsCounted members rule evidence (taken ++ more) given fault)
     → (counted : List SiteRecord)
-    × IfSome first (λ file. IsReadingOfBytes members unsure file fault counted)
+    × IfSome first (λ file. IsReadingOfBytes members rule file fault counted)
     × IsEvidence members evidence (given ++ counted)
-amiss members unsure evidence given None now taken fault h some counts =
+amiss members rule evidence given None now taken fault h some counts =
     let it = counts [] in (it.0, tt, it.2)
-amiss members unsure evidence given (Some file) now taken fault (rest, bytes, now_is) some counts =
+amiss members rule evidence given (Some file) now taken fault (rest, bytes, now_is) some counts =
     let it = counts rest in (
       it.0,
       (
         fault,
-        subst (λ (b : List ℕ). IsReadingOf members unsure b fault it.0) (sym bytes) it.1,
+        subst (λ (b : List ℕ). IsReadingOf members rule b fault it.0) (sym bytes) it.1,
         same file.is_whole fault some,
       ),
       it.2,
@@ -119,3 +121,15 @@ amiss members unsure evidence given (Some file) now taken fault (rest, bytes, no
     same true fault some = refl
     same false (Some fault) some = refl
     same false None some = absurd (cc some)
+
+-- what was read to the front of a piece
+pub gives_front : (file : FileBytes) (front rest : List ℕ) (result : Option ℕ)
+    (after : Option FileBytes) → 0 < length front → IfSome result (λ count. count ≤ length front)
+    → Gives file front result after → Gives file (front ++ rest) result after
+gives_front file front rest None after some bound gives = gives
+gives_front file front rest (Some zero) after some bound gives = λ more. gives some
+gives_front file front rest (Some (suc n)) after some bound (left, bytes, is) = (
+  left,
+  bytes ∙ ap (λ (b : List ℕ). b ++ left) (sym (take-append-le (suc n) front rest bound)),
+  is,
+)

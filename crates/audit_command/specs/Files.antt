@@ -3,12 +3,14 @@ use Rattle.std.specs.Prelude.{◌≡◌, ◌<◌, ℕ, zero, suc, Bool, true, fa
 use Rattle.std.specs.Prelude.{take, Option, Some, None}
 
 -- What reading a file gives: its bytes, and whether it ends after them, or else reading fails
--- there. A file that is in use is held by a site, which may not have synced its last records.
--- Another may have some that nobody has synced: whether syncing it succeeds.
+-- there. A file that is in use is held by a site, which may not have synced its last records, and
+-- may say how many of the first bytes are synced. Another may have some that nobody has synced:
+-- whether syncing it succeeds.
 pub record FileBytes : Type 0 where
   pub bytes : List ℕ
   pub is_whole : Bool
   pub in_use : Bool
+  pub synced : Option ℕ
   pub can_sync : Bool
 
 -- what the files of these paths give, where that is known; none inside where one can't be opened

@@ -10,6 +10,8 @@ use std::hash::RandomState;
 ///   site can open it until it is dropped here.
 /// - If a cell is in use, no byte is read that was appended after `open` returned. So all records
 ///   that are read were synced, except as many of the last as a site may not have synced.
+/// - What `synced` says was said before that by the site that holds the cell, and holds it still: so
+///   many of the bytes that are read were synced then.
 pub trait CellFiles {
     ghost use Rattle.std.specs.Prelude.{◌≡◌, ◌≤◌, ℕ, List, Option, Some, None, IfOk, IfSome};
     ghost use Rattle.std.specs.Prelude.{length, option_map};
@@ -36,6 +38,10 @@ pub trait CellFiles {
     /// Whether the cell was in use when it was opened: a site held it.
     fn is_in_use(&self, cell: &Self::Cell) -> bool
         ensures { IfSome (left cell.now) (λ file. result ≡ file.in_use) };
+
+    /// How many of the first bytes are synced of a cell in use, if its site says so.
+    fn synced(&self, cell: &Self::Cell) -> Option<u64>
+        ensures { IfSome (left cell.now) (λ file. result ≡ file.synced) };
 
     /// Syncs a cell that isn't in use, of this path, before it is read, and says whether that was
     /// done.

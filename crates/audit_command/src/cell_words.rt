@@ -12,9 +12,10 @@ use std::fmt::Display;
 use std::io::{self, ErrorKind};
 
 const IN_USE: &str =
-    " is in use: its last record isn't counted, since a crash may still take it back";
+    " is in use: of its last 64 records only those are counted that its site says are synced";
 
-const PIPED: &str = " comes through a pipe and can't be synced, so its last record isn't counted";
+const PIPED: &str =
+    " comes through a pipe and can't be synced, so its last 64 records aren't counted";
 
 const FREE: &str =
     " isn't in use: it was synced before it was read, and each of its records can be counted";

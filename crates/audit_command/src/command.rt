@@ -1,15 +1,24 @@
 //! The command `audit`: over the files of cells.
 
+ghost use Rattle.std.specs.Prelude.{◌≡◌, map, IfErr, IfOk, IsErrOf};
+ghost use Rattle.cell_device.specs.Calls.{HasCause};
+ghost use Rattle.members_file.specs.Files.{members_named};
+ghost use Rattle.outcomes.specs.Outcomes.{Writes, WritesPrefix};
+ghost use Rattle.audit_command.specs.Audits.{Answers};
+
 use crate::arguments::AuditTask;
 use crate::audit_speaker::AuditSpeaker;
+use crate::cell_files::CellFiles;
 use crate::cells_audit::audit_on;
 use crate::disk_cells::DiskCells;
-use counted_writes::CountedWriter;
+use counted_writes::{CountedWrite, CountedWriter};
 use file_words::SpokenLines;
 use json_lines::JsonLines;
+use members_file::MemberSites;
 use outcomes::ProgramFault;
 use site_commands::{Stop, members_at, write_stop};
 use site_words::{Asked, SpokenOutput};
+use std::alloc::Global;
 use std::hash::RandomState;
 use std::io;
 
@@ -23,7 +32,6 @@ pub fn print_audit(rt: &HostRuntime, task: &AuditTask<'_>) -> Result<u8, Program
     };
     match members_at(rt, task.members) {
         Ok(file) => {
-            let members = file.members();
             let files = DiskCells {
                 rt,
                 words: task.words,
@@ -33,10 +41,34 @@ pub fn print_audit(rt: &HostRuntime, task: &AuditTask<'_>) -> Result<u8, Program
             let output = JsonLines::new(rt.alloc(), task.json, io::writer(rt));
             let output = SpokenLines::new(rt.alloc(), speaker, output);
             let mut output = CountedWriter::new(output);
-            audit_on(rt.alloc(), &members, &files, &task.cells, &mut output)
+            audit_task_on(rt.alloc(), &file, task, &files, &mut output)
         }
         Err(stop) => refuse(rt, task, stop),
     }
+}
+
+/// Reads the cells of this task, and writes what they show together by the members in the file that
+/// it names. `audit_on` says what.
+pub fn audit_task_on<F: CellFiles, W: CountedWrite>(
+    alloc: Global,
+    file: &MemberSites,
+    task: &AuditTask<'_>,
+    files: &F,
+    output: &mut W,
+) -> Result<u8, ProgramFault>
+    ensures ok { IfOk result (λ status. Answers (members_named file.now) (F.bytes_at files.now)
+        (map (λ path. path.now) task.now.cells.items)
+        (Writes (W.contents output.old) (W.contents output.new) status)) }
+    ensures output { IsErrOf result ProgramFault.Output
+        → Answers (members_named file.now) (F.bytes_at files.now)
+        (map (λ path. path.now) task.now.cells.items)
+        (WritesPrefix (W.contents output.old) (W.contents output.new)) }
+    ensures fault { IfErr result (λ fault. fault ≡ ProgramFault.Output) }
+    ensures cause { HasCause ProgramFault.Output (W.failures output.old) (W.failures output.new)
+        result }
+{
+    let members = file.members();
+    audit_on(alloc, &members, files, &task.cells, output)
 }
 
 // Writes why no cell is read, and says it in words if they are asked for.

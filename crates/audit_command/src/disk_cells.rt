@@ -6,6 +6,7 @@ ghost use Rattle.std.specs.IoError.{error_kind};
 
 use crate::cell_files::CellFiles;
 use crate::cell_words::{say_opened, say_synced};
+use cell_file::synced_length;
 use ledger::LiveCell;
 use std::alloc::AllocError;
 use std::fs::{File, TryLockError};
@@ -29,6 +30,8 @@ pub(crate) struct DiskCell {
     /// Whether a site holds its lock, or may: nobody knows it of what comes through a pipe. Where
     /// none does, this file holds it, shared: no site can open the cell until it is dropped.
     pub(crate) in_use: bool,
+    /// How many of its first bytes are synced, if its site says so.
+    synced: Option<u64>,
     /// At most this many more bytes are read.
     unread: u64,
 }
@@ -61,6 +64,12 @@ impl CellFiles for DiskCells<'_> {
         ensures { result ≡ cell.now.in_use }
     {
         cell.in_use
+    }
+
+    fn synced(&self, cell: &DiskCell) -> Option<u64>
+        ensures { result ≡ cell.now.synced }
+    {
+        cell.synced
     }
 
     fn sync(&self, cell: &DiskCell, path: &str) -> bool {
@@ -107,26 +116,41 @@ fn open_cell(rt: &HostRuntime, path: &str) -> io::Result<DiskCell> {
         return Ok(DiskCell {
             bytes,
             in_use: true,
+            synced: None,
             unread: u64::MAX,
         });
     }
     if is_locked(bytes.file())? {
-        // By now its site has synced all of these records, except perhaps the last: it syncs before
-        // it appends the next. What comes after them isn't read. If the site couldn't sync the last
-        // one, it may cut it off and append others in its place; no record counts that may be mixed
-        // with those.
+        // What its site says comes first: at least so many of the bytes that are read after that are
+        // synced, and none of these is ever cut off.
+        let synced = said_of(rt, path)?;
+        // By now the site has synced all of these records, except perhaps those of one batch: it
+        // syncs before it appends the next. What comes after them isn't read. If the site couldn't
+        // sync its batch, it may cut it off and append others in its place; no record counts that
+        // may be mixed with those.
         let unread = bytes.file().metadata()?.len();
         return Ok(DiskCell {
             bytes,
             in_use: true,
+            synced,
             unread,
         });
     }
     Ok(DiskCell {
         bytes,
         in_use: false,
+        synced: None,
         unread: u64::MAX,
     })
+}
+
+/// How many of the first bytes are synced of the cell of this path, if its site says so. `-` is no
+/// path: no file is beside standard input.
+fn said_of(rt: &HostRuntime, path: &str) -> io::Result<Option<u64>> {
+    if path == "-" {
+        return Ok(None);
+    }
+    Ok(synced_length(rt, path)?)
 }
 
 /// Whether a site holds the file's lock. Where none does, this file holds it, shared.

@@ -17,7 +17,7 @@ use crate::cell_state::CellState;
 use crate::evidence::{Evidence, no_evidence};
 use crate::finding_lines::push_fault;
 use crate::in_use_line::push_in_use;
-use crate::last_records::unsure_of;
+use crate::sync_rule::rule_for;
 use fed_types::Members;
 use std::alloc::{AllocError, Global};
 use std::hash::RandomState;
@@ -65,7 +65,8 @@ fn add_records_in<F: CellFiles>(
     if !is_sure(files, cell, path, in_use) {
         return Ok(unread());
     }
-    let fault = read_cell(alloc, members, files, cell, unsure_of(in_use), evidence)?;
+    let rule = rule_for(in_use, files.synced(cell));
+    let fault = read_cell(alloc, members, files, cell, rule, evidence)?;
     Ok(CellState { in_use, fault })
 }
 

@@ -1,24 +1,13 @@
 //! The records of a cell that aren't counted before others follow.
 
-ghost use Rattle.std.specs.Prelude.{◌≡◌, ◌++◌, [], IfOk};
-ghost use Rattle.audit_command.specs.CellReadings.{unsure_of};
+ghost use Rattle.std.specs.Prelude.{◌≡◌, ◌≤◌, ◌++◌, [], length, take, IfOk, OnOk};
 ghost use Rattle.audit_command.specs.inner.Standings.{IsSplit};
 
 use records::Record;
 use std::alloc::{AllocError, Global};
 use std::mem;
 
-/// A site appends at most this many records before it syncs.
-const MOST_UNSYNCED: usize = 1;
-
-/// For this many of the last records of a cell it isn't sure that a crash leaves them.
-pub(crate) fn unsure_of(in_use: bool) -> usize
-    ensures { result ≡ unsure_of in_use }
-{
-    if in_use { MOST_UNSYNCED } else { 0 }
-}
-
-/// The records of a cell that were read last, as many as are unsure, or all.
+/// The records of a cell that were read last, as many as may be unsynced, or all.
 #[derive(Debug, Drop)]
 pub(crate) struct LastRecords {
     unsure: usize,
@@ -53,5 +42,18 @@ impl LastRecords {
         let sure = all.len().saturating_sub(self.unsure);
         self.records = all.split_off(sure)?;
         Ok(all)
+    }
+    /// How many they are.
+    pub(crate) fn len(&self) -> usize
+        ensures { result ≡ length self.now.records.items }
+    {
+        self.records.len()
+    }
+
+    /// The first so many of them, or all if there are fewer.
+    pub(crate) fn first(&self, count: usize) -> &[Record]
+        ensures { result.now ≡ take count self.now.records.items }
+    {
+        &self.records[..count.min(self.records.len())]
     }
 }

@@ -23,11 +23,13 @@ mod gathered;
 mod in_use_line;
 mod last_records;
 mod law;
+mod mark;
 mod standing;
+mod sync_rule;
 mod version;
 
 pub use arguments::{AuditTask, audit_command, audit_task};
 pub use cell_files::CellFiles;
 pub use cells_audit::audit_on;
-pub use command::print_audit;
-pub use law::conflicts_are_said;
+pub use command::{audit_task_on, print_audit};
+pub use law::{conflicts_are_said, counted_records_outlive_a_crash};

@@ -1,7 +1,9 @@
 use crate::place::Place;
+use crate::synced_file::SyncedFile;
 use crate::text_end::find_text_end;
 use cell_device::{CellFault, CellFile, FileFault, Trust};
-use std::alloc::Global;
+use ledger::intact_end;
+use std::alloc::{AllocError, Global};
 use std::fs::File;
 use std::io::{self, ErrorKind, Read, Seek, SeekFrom, Write};
 use system_files::{expect_length, expect_room};
@@ -13,6 +15,10 @@ pub struct HostFile {
     place: Place,
     trust: Trust,
     alloc: Global,
+    synced: SyncedFile,
+    /// Of what is synced, at most this many bytes are said to be: what comes after them may be torn,
+    /// and then an opening cuts it off.
+    whole: u64,
 }
 
 impl HostFile {
@@ -20,8 +26,8 @@ impl HostFile {
     ghost use Rattle.cell_device.specs.declared.trust.Trust.TheVariants.{Sound};
     ghost use Rattle.cell_file.specs.HostFiles.{file_state};
 
-    /// The open file at this place, all of whose bytes are on the disk.
-    pub(crate) fn new(alloc: Global, file: File, place: Place) -> HostFile
+    /// The open file at this place, all of whose bytes are on the disk, and the file beside it.
+    pub(crate) fn new(alloc: Global, file: File, place: Place, synced: SyncedFile) -> HostFile
         ensures { (file_state result).trust ≡ Sound }
     {
         HostFile {
@@ -29,6 +35,8 @@ impl HostFile {
             place,
             trust: Trust::Sound,
             alloc,
+            synced,
+            whole: 0,
         }
     }
 }
@@ -46,7 +54,10 @@ impl CellFile for HostFile {
 
     fn read(&mut self, alloc: Global) -> Result<Vec<u8>, CellFault> {
         match read_whole(&mut self.file, alloc) {
-            Ok(bytes) => Ok(bytes),
+            Ok(bytes) => {
+                self.whole = whole_bytes(self.alloc, &bytes);
+                Ok(bytes)
+            }
             Err(error) if error.kind() == ErrorKind::OutOfMemory => Err(CellFault::Memory),
             Err(_) => Err(CellFault::Device),
         }
@@ -61,7 +72,11 @@ impl CellFile for HostFile {
 
     fn append(&mut self, bytes: &[u8]) -> Result<(), CellFault> {
         match append_whole(&mut self.file, bytes) {
-            Ok(()) => Ok(()),
+            Ok(()) => {
+                // Whoever appends has cut off before what was torn.
+                self.whole = u64::MAX;
+                Ok(())
+            }
             Err(_) => {
                 self.trust = Trust::Spoilt;
                 Err(CellFault::Device)
@@ -70,6 +85,7 @@ impl CellFile for HostFile {
     }
 
     fn cut(&mut self, len: usize) -> Result<(), CellFault> {
+        self.synced.lower(len as u64, &self.file);
         match shorten(&self.file, len as u64) {
             Ok(()) => Ok(()),
             Err(_) => {
@@ -83,7 +99,10 @@ impl CellFile for HostFile {
         let synced = self.file.sync_all();
         // After the sync, so that the answer speaks of the file that the path leads to now.
         match after_sync(self.place.length(), len, synced.is_ok()) {
-            Ok(()) => Ok(()),
+            Ok(()) => {
+                self.synced.say(len.min(self.whole), &self.file);
+                Ok(())
+            }
             Err(fault) => {
                 self.trust = Trust::Spoilt;
                 Err(fault)
@@ -92,6 +111,7 @@ impl CellFile for HostFile {
     }
 
     fn cut_back(&mut self, len: u64) -> Result<(), FileFault> {
+        self.synced.lower(len, &self.file);
         match shorten_anew(&self.file, len) {
             Ok(()) => {
                 self.trust = Trust::Mending;
@@ -119,6 +139,7 @@ impl CellFile for HostFile {
 
     // If this fails, the file stays as it was cut: nothing more can be done.
     fn condemn(&mut self) {
+        self.synced.lower(0, &self.file);
         let _ = mark_damaged(&mut self.file, self.alloc);
     }
 }
@@ -129,6 +150,14 @@ fn read_whole(file: &mut File, alloc: Global) -> io::Result<Vec<u8>> {
     let mut bytes = Vec::new(alloc);
     file.read_to_end(&mut bytes)?;
     Ok(bytes)
+}
+
+/// Where the records end in these bytes, all that a cell has; 0 if there is no memory to look.
+fn whole_bytes(alloc: Global, bytes: &[u8]) -> u64 {
+    match intact_end(alloc, bytes) {
+        Ok(end) => end as u64,
+        Err(AllocError) => 0,
+    }
 }
 
 /// Appends these bytes, unless the file would be longer than the process may write: that would end

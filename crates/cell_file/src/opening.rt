@@ -5,8 +5,10 @@ ghost use Rattle.cell_device.specs.declared.trust.Trust.TheVariants.{Sound};
 ghost use Rattle.cell_file.specs.HostFiles.{file_state};
 
 use crate::DiskCell;
+use crate::beside::file_seen_at;
 use crate::host_file::HostFile;
 use crate::place::Place;
+use crate::synced_file::SyncedFile;
 use crate::unopened::{Unopened, unlocked_by, unopened_by};
 use cell_device::{CellFault, FileCell};
 use std::fs::{self, File, OpenOptions};
@@ -14,7 +16,7 @@ use std::io::{self, ErrorKind};
 use std::os::fd::AsRawFd;
 use std::os::unix::fs::OpenOptionsExt;
 use std::path::Path;
-use system_files::{FileId, expect_same};
+use system_files::expect_same;
 
 /// Whether opening makes a file.
 #[derive(Clone, Copy, Debug, PartialEq, Eq)]
@@ -73,22 +75,12 @@ fn open_file(rt: &HostRuntime, path: &str, creation: Creation) -> io::Result<Fil
     Ok(file)
 }
 
-// The file of this path, if one is there. A link is refused, so nothing is made where a link leads
-// to no file.
-fn file_seen_at(rt: &HostRuntime, path: &str) -> io::Result<Option<FileId>> {
-    match fs::symlink_metadata(rt, path) {
-        Ok(there) if !there.is_file() => Err(ErrorKind::InvalidInput.into()),
-        Ok(there) => Ok(Some(FileId::of(&there))),
-        Err(error) if error.kind() == ErrorKind::NotFound => Ok(None),
-        Err(error) => Err(error),
-    }
-}
-
 // The file, once what a read of it gives outlives a crash.
 fn settle(rt: &HostRuntime, path: &str, file: File) -> io::Result<HostFile>
     ensures { IfOk result (λ file. (file_state file).trust ≡ Sound) }
 {
     let place = Place::new(rt, path, &file)?;
+    let synced = SyncedFile::new(rt, path)?;
     file.sync_all()?;
     forget_copies(&file)?;
     let folder = fs::open(rt, folder_of(path))?;
@@ -98,7 +90,7 @@ fn settle(rt: &HostRuntime, path: &str, file: File) -> io::Result<HostFile>
     if place.length().is_none() {
         return Err(ErrorKind::NotFound.into());
     }
-    Ok(HostFile::new(rt.alloc(), file, place))
+    Ok(HostFile::new(rt.alloc(), file, place, synced))
 }
 
 // A sync that failed before may have left the system's copies of the bytes different from those on

@@ -131,7 +131,7 @@ pub static OTHERS: [Meaning; 30] = [
     },
     Meaning {
         code: "in-use CELL",
-        words: "a site has the cell open, so its last record isn't counted",
+        words: "a site has the cell open: its last 64 records count if it says they are synced",
         advice: "",
     },
     Meaning {

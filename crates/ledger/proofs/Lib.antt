@@ -12,3 +12,4 @@ pub mod ToldParts
 pub mod GivenLines
 pub mod Headerless
 pub mod NotedVersions
+pub mod IntactEnds

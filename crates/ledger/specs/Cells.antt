@@ -82,3 +82,10 @@ pub record Begins (bytes : List ℕ) (owner : Owner) (named : Bool) (all : List 
   pub reaches : Reaches owner bytes start records rest
   pub all_are : all ≡ records_of start records
   pub weights_are : NamesWeights start owner.members.weights named
+
+-- where the last record, or the last header, ends in a cell of so many bytes that ends so and isn't
+-- damaged
+abbrev pub EndsAt : Ending → (len end : ℕ) → Type 0
+EndsAt Whole len end = end ≡ len
+EndsAt (Torn count) len end = end + count ≡ len
+EndsAt (Damaged place) len end = Unit {0}

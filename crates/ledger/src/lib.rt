@@ -42,6 +42,6 @@ pub use law::contents_are_what_opening_gives;
 pub use ledger_lines::LedgerLines;
 pub use live_cell::LiveCell;
 pub use part::{Head, LastPart, Part, Parts};
-pub use read::read_contents;
+pub use read::{intact_end, read_contents};
 pub use standing::Standing;
 pub use version_filter::VersionFilter;

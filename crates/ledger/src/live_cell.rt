@@ -8,9 +8,10 @@ use std::fs::{File, Files};
 use std::io::{ErrorKind, Read, Result, Seek, SeekFrom};
 use std::os::unix::fs::MetadataExt;
 
-/// A site changes only the end of its cell: it cuts off a record that a crash has left in part, or
-/// one whose sync has failed, and appends others in its place. Two records have fewer bytes.
-const CHANGING: usize = 1024;
+/// A site changes only the end of its cell: it cuts off a record that a crash has left in part, or a
+/// batch whose sync has failed, and appends others in its place. A batch has fewer bytes: at most 64
+/// records, of at most 285 bytes each.
+const CHANGING: usize = 18_432;
 
 /// How often the end is read until nothing has changed meanwhile; then it is taken as it came.
 const MOST_LOOKS: u32 = 100;

@@ -2,7 +2,7 @@
 
 ghost use Rattle.std.specs.Prelude.{◌≡◌, ◌≤◌, ◌-◌, ◌+◌, IfOk, MatchOption, length};
 ghost use Rattle.records.specs.Journals.{HasEnd, HasHeader};
-ghost use Rattle.ledger.specs.Cells.{HasNoOwner, IsCell};
+ghost use Rattle.ledger.specs.Cells.{HasNoOwner, IsCell, Said, IsSaid, EndsAt};
 ghost use Rattle.ledger.specs.inner.Named.{IsHeadedBy};
 ghost use Rattle.ledger.specs.inner.Found.{IsDamageFound, IsDamageIn, IsAllFound};
 ghost use Rattle.ledger.specs.inner.Found.{IsAllAfter};
@@ -173,5 +173,18 @@ pub fn read_contents(alloc: Global, bytes: &[u8]) -> Result<Option<Contents>, Al
     match owner_of(alloc, bytes)? {
         Some(owner) => Ok(Some(contents_of(alloc, &owner, bytes)?)),
         None => Ok(None),
+    }
+}
+
+/// Where the last record or header of a cell ends, by the sizes of its records alone, if the cell
+/// isn't damaged: 0 if it begins with no whole header.
+pub fn intact_end(alloc: Global, bytes: &[u8]) -> Result<usize, AllocError>
+    ensures in_range { IfOk result (λ end. end ≤ length bytes.now) }
+    ensures end { IfOk result (λ end. (said : Said) → IsSaid bytes.now said
+        → EndsAt said.ending (length bytes.now) end) }
+{
+    match owner_of(alloc, bytes)? {
+        Some(owner) => Ok(find_all(alloc, &owner, bytes)?.end),
+        None => Ok(0),
     }
 }

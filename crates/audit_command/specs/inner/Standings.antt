@@ -1,6 +1,6 @@
 -- A cell that is being read: whose it is, and which of its records are counted.
-use Rattle.std.specs.Prelude.{◌≡◌, ◌-◌, false, IsSome, ℕ, List, [], ◌++◌, length, Option, Some}
-use Rattle.std.specs.Prelude.{None}
+use Rattle.std.specs.Prelude.{◌≡◌, ◌-◌, false, IsSome, ℕ, List, [], ◌++◌, length, take}
+use Rattle.std.specs.Prelude.{Option, Some, None}
 use Rattle.fed_types.specs.Sites.{Membership}
 use Rattle.records.specs.declared.record.Record.{Record}
 use Rattle.ledger.specs.declared.ending.Ending.{Ending}
@@ -17,9 +17,11 @@ use Rattle.audit_command.specs.declared.cell_reading.Progress.TheVariants.{More,
 use Rattle.audit_command.specs.declared.evidence.Evidence.{Evidence}
 use Rattle.audit_command.specs.declared.standing.Standing.{Standing}
 use Rattle.audit_command.specs.declared.standing.Standing.TheVariants.{Unknown, Member, Foreign}
+use Rattle.audit_command.specs.declared.sync_rule.SyncRule.{SyncRule}
 use Rattle.audit_command.specs.CellReadings.{IsMembers, IsReadingOf, of_site, damage_of}
 use Rattle.audit_command.specs.CellReadings.{or_unread}
 use Rattle.audit_command.specs.inner.Gathered.{IsEvidence}
+use Rattle.audit_command.specs.inner.Marks.{IsMark, mark_after, more_synced}
 
 -- ---- whose it is
 
@@ -68,63 +70,75 @@ pub record IsSplit (unsure : ℕ) (records counted last : List Record) : Type 0 
   pub parts_are : records ≡ counted ++ last
   pub length_is : length counted ≡ length records - unsure
 
--- A part was counted: those of the earlier last records and of its own that are sure now.
-pub record IsPartCounted (members : Membership) (old new : Evidence) (before after : CellReading)
-    (part : Part) (sure : List Record) : Type 0 where
+-- ---- one more part
+
+-- A part was taken in: of the earlier last records and its own these are no longer among the last.
+pub record IsPartTaken (members : Membership) (before after : CellReading) (part : Part)
+    (sure : List Record) : Type 0 where
   pub reader_is : after.reader ≡ before.reader
   pub standing_is : IsStandingAfter members before.standing part.head part.records.items
       after.standing
   pub unsure_is : after.last.unsure ≡ before.last.unsure
   pub split : IsSplit before.last.unsure (before.last.records.items ++ part.records.items) sure
       after.last.records.items
-  pub counted : Adds old new (counted_as after.standing sure)
+  pub mark_is : after.mark ≡ mark_after 0 (length sure) before.mark
 
--- the last part was, and this is the defect
+-- it was, and these were counted
+abbrev pub IsPartCounted : Membership → (old new : Evidence) → (before after : CellReading) → Part
+    → (sure : List Record) → Type 0
+IsPartCounted members old new before after part sure =
+    IsPartTaken members before after part sure
+    × Adds old new (counted_as after.standing sure)
+
+-- the last part was, and so were those of the last records that are synced; this is the defect
 abbrev pub IsLastCounted : Membership → (old new : Evidence) → (before after : CellReading)
     → LastPart → Option CellDefect → Type 0
 IsLastCounted members old new before after last fault =
-    ((sure : List Record) × IsPartCounted members old new before after last.part sure)
+    (sure : List Record) × IsPartTaken members before after last.part sure
+    × Adds old new (counted_as after.standing
+    (sure ++ take (more_synced after.mark) after.last.records.items))
     × (fault ≡ fault_of after.standing last.ending)
 
 -- ---- between two pieces
 
 -- of the records that were given these are sure, and were counted after this
-pub record CountsTold (members : Membership) (unsure : ℕ) (reading : CellReading)
+pub record CountsTold (members : Membership) (rule : SyncRule) (reading : CellReading)
     (evidence : Evidence) (taken : List ℕ) (given : List SiteRecord) (told : Told)
     (sure : List Record) : Type 0 where
   pub told_is : HasTold reading.reader taken told
   pub standing_is : HasStanding members told reading.standing
-  pub unsure_is : reading.last.unsure ≡ unsure
-  pub split : IsSplit unsure told.records sure reading.last.records.items
+  pub unsure_is : reading.last.unsure ≡ rule.most_unsynced
+  pub split : IsSplit rule.most_unsynced told.records sure reading.last.records.items
+  pub mark_is : IsMark rule.synced taken (length sure) reading.mark
   pub counted : IsEvidence members evidence (given ++ counted_as reading.standing sure)
 
--- these bytes were taken, and the records that they give were counted after this, except `unsure`
--- of the last
-abbrev pub HasCounted : Membership → (unsure : ℕ) → CellReading → Evidence → (taken : List ℕ)
+-- these bytes were taken, and the records that they give were counted after this, except those of
+-- the last that may be unsynced
+abbrev pub HasCounted : Membership → SyncRule → CellReading → Evidence → (taken : List ℕ)
     → (given : List SiteRecord) → Type 0
-HasCounted members unsure reading evidence taken given =
+HasCounted members rule reading evidence taken given =
     (told : Told) × (sure : List Record)
-    × CountsTold members unsure reading evidence taken given told sure
+    × CountsTold members rule reading evidence taken given told sure
 
 -- this is wrong with a cell that says all that its bytes do, and what counts of it was counted
-abbrev pub IsCounted : Membership → (unsure : ℕ) → Evidence → (bytes : List ℕ)
+abbrev pub IsCounted : Membership → SyncRule → Evidence → (bytes : List ℕ)
     → (given : List SiteRecord) → Option CellDefect → Type 0
-IsCounted members unsure evidence bytes given fault =
-    (counted : List SiteRecord) × IsReadingOf members unsure bytes fault counted
+IsCounted members rule evidence bytes given fault =
+    (counted : List SiteRecord) × IsReadingOf members rule bytes fault counted
     × IsEvidence members evidence (given ++ counted)
 
 -- after one more piece it goes on; or there is a defect, whatever follows
-abbrev pub IsProgress : Membership → (unsure : ℕ) → CellReading → Evidence → (taken : List ℕ)
+abbrev pub IsProgress : Membership → SyncRule → CellReading → Evidence → (taken : List ℕ)
     → (given : List SiteRecord) → Progress → Type 0
-IsProgress members unsure reading evidence taken given More =
-    HasCounted members unsure reading evidence taken given
-IsProgress members unsure reading evidence taken given (Ended fault) =
+IsProgress members rule reading evidence taken given More =
+    HasCounted members rule reading evidence taken given
+IsProgress members rule reading evidence taken given (Ended fault) =
     IsSome fault
-    × ((more : List ℕ) → IsCounted members unsure evidence (taken ++ more) given fault)
+    × ((more : List ℕ) → IsCounted members rule evidence (taken ++ more) given fault)
 
 -- the same of a cell of which nothing can be read after these bytes
-abbrev pub IsUnreadCounted : Membership → (unsure : ℕ) → Evidence → (first : List ℕ)
+abbrev pub IsUnreadCounted : Membership → SyncRule → Evidence → (first : List ℕ)
     → (given : List SiteRecord) → Option CellDefect → Type 0
-IsUnreadCounted members unsure evidence first given fault =
-    (found : Option CellDefect) × IsCounted members unsure evidence first given found
+IsUnreadCounted members rule evidence first given fault =
+    (found : Option CellDefect) × IsCounted members rule evidence first given found
     × (fault ≡ or_unread false found)
