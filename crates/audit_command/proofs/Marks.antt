@@ -105,10 +105,10 @@ damage_mark synced taken counted (Ahead a) told ending damaged whole is more = (
   said_as synced (length taken + a) 0 (taken ++ more) is
       (elim (leb_tells (length taken + a) (length (taken ++ more))) [
         | inl t ↦ inl (
-            t.1,
-            subst (λ (b : List ℕ). CountWhole b 0) (sym (take-append-add taken more a))
-                (told, ending, whole (take a more), damaged_none ending told damaged),
-          )
+          t.1,
+          subst (λ (b : List ℕ). CountWhole b 0) (sym (take-append-add taken more a))
+              (told, ending, whole (take a more), damaged_none ending told damaged),
+        )
         | inr f ↦ inr (omega (arith, f.1), refl)
       ]),
   omega arith,

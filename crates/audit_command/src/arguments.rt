@@ -11,8 +11,7 @@ use std::alloc::{AllocError, Global};
 
 const ABOUT: &str = "Says which bags the cells of several sites prove to be chosen";
 
-const EXAMPLE: &str =
-    "Cells may be in use: of such a cell each whole record but the last 64 is
+const EXAMPLE: &str = "Cells may be in use: of such a cell each whole record but the last 64 is
 counted, since a crash may take back what its site has appended and not synced;
 and each one that the site, by what it leaves in CELL.synced, says is synced. A
 cell that no site holds is synced before it is read, and a site that starts

@@ -142,7 +142,16 @@ fn serve_forever<C: Cell, P: Port, F: Folders, W: Write>(
         (begins_with site.old held.old new_volatile) result }
 {
     'calls: for _ in 0..u64::MAX {
-        match serve_batches(alloc, site, held, port, folders, addresses, u32::MAX, output) {
+        match serve_batches(
+            alloc,
+            site,
+            held,
+            port,
+            folders,
+            addresses,
+            u32::MAX,
+            output,
+        ) {
             Ok(()) => {}
             Err(fault) => return write_stopped(alloc, output, fault),
         }

@@ -62,5 +62,5 @@ reads-preserved g c =
           (IsProgress c.args.members.now c.args.rule c.take.new.self c.take.new.evidence
           (i.0 ++ piece) given)
           c.in-More.is (c.in_ok-fault-in-Some.ensures c.args.rule i.0 given (c.in_ok-note_mark.ensures.counted c.args.members.now c.args.rule
-    c.reads.evidence i.0 given (i.2 given is))),
+          c.reads.evidence i.0 given (i.2 given is))),
     )

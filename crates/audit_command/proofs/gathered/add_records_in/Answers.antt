@@ -20,11 +20,11 @@ with_use : (members : Membership) (rule : SyncRule) (synced : Option ℕ) (in_us
 with_use members rule synced in_use sure fault counted None its said is holds sure_is reading = tt
 with_use members rule synced in_use sure fault counted (Some file) its said is holds sure_is reading
     = (
-  its,
-  subst (λ (b : Bool). IsReadingIf b members in_use file fault counted) (sym holds ∙ sure_is)
-      (subst (λ (r : SyncRule). IsReadingOfBytes members r file fault counted)
-      (is ∙ ap (rule_for in_use) said) reading),
-)
+      its,
+      subst (λ (b : Bool). IsReadingIf b members in_use file fault counted) (sym holds ∙ sure_is)
+          (subst (λ (r : SyncRule). IsReadingOfBytes members r file fault counted)
+          (is ∙ ap (rule_for in_use) said) reading),
+    )
 
 pub returns : goal.returns
 returns g c = λ given is.
