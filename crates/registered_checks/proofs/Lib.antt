@@ -4,4 +4,3 @@ pub mod Agreed
 pub mod Paths
 pub mod Listed
 pub mod Said
-pub mod Opened

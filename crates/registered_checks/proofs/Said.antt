@@ -6,7 +6,6 @@ use Rattle.known_bags.specs.declared.known_bag.KnownBag.{KnownBag}
 use Rattle.outcomes.specs.Outcomes.{Outcome}
 use Rattle.registered_checks.specs.Held.{Given, held_of}
 use Rattle.registered_checks.specs.Checks.{ComparesFor, ComparesOn, Ends, IsSaid, EndsSaid}
-use Rattle.registered_checks.specs.Checks.{EndsPrinted}
 use Rattle.registered_checks.specs.Lists.{AnswersTo}
 use Rattle.registered_checks.proofs.Compared.{reported_on}
 
@@ -51,20 +50,9 @@ ends_said old new said_before said_after before after alone status text said out
   rw (← ends.0.0) (rw (← ends.1) said),
 )
 
--- and was said to the writer of the text
-pub ends_printed : (old mid new : Option (List ℕ)) (before after : ℕ) (alone status : ℕ)
-    (text : List ℕ) → IsSaid mid new before after alone status text
-    → (outcome : Outcome) (words : List ℕ) → Ends old mid alone text outcome words
-    → EndsPrinted old new before after status outcome words
-ends_printed old mid new before after alone status text said outcome words ends = (
-  mid,
-  ends.0.1,
-  rw (← ends.0.0) (rw (← ends.1) said),
-)
-
 -- the status 0 is that of the check
 pub zero_alone : (old new : Option (List ℕ)) (before after : ℕ) (alone status : ℕ)
     (text : List ℕ) → IsSaid old new before after alone status text → status ≡ 0 → alone ≡ 0
 zero_alone old new before after alone status text (inl said) zero = sym said.0 ∙ zero
 zero_alone old new before after alone status text (inr said) zero =
-    absurd (omega (arith, said.1, zero))
+    absurd (omega (arith, said.0, zero))

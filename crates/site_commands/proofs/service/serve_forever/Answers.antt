@@ -10,8 +10,8 @@ use Rattle.site_commands.proofs.service.serve_forever.Goals as goal
 
 pub calls-init : goal.calls-init
 calls-init g c = record {
-  held = c.args.requires.held;
-  waits = c.args.requires.waits;
+  held = c.requires.held;
+  waits = c.requires.waits;
   kept = refl;
   led = λ stands.
       none_yet g.C.Cell.device
