@@ -79,6 +79,18 @@ more_counted (Member site) records more =
     map-append (λ r. record { site = site; kept = r }) records more
 more_counted Foreign records more = refl
 
+-- records that are counted in two steps
+pub adds_both : (first mid last : Evidence) (standing : Standing) (records more : List Record)
+    → Adds first mid (counted_as standing records) → Adds mid last (counted_as standing more)
+    → Adds first last (counted_as standing (records ++ more))
+adds_both first mid last standing records more one other = λ members given is.
+    let a = counted_as standing records in
+    let b = counted_as standing more in
+    subst (λ (all : List SiteRecord). IsEvidence members last (given ++ all))
+    (sym (more_counted standing records more))
+    (subst (IsEvidence members last) (append_assoc given a b)
+    (other members (given ++ a) (one members given is)))
+
 -- whose a cell is whose header names the weights doesn't depend on its records
 still_members : (members : Membership) (head : Head) (owner : Owner) (records more : List Record)
     → head ≡ record { owner = owner; names_weights = true }

@@ -11,4 +11,4 @@ invariant-reads g l =
     (taken : List ℕ)
     × IsTaken (g.F.CellFiles.left l.fn.cell) (g.F.CellFiles.left l.cell) taken
     × ((given : List SiteRecord) → IsEvidence l.members l.fn.evidence given
-    → HasCounted l.members l.rule l.reading l.evidence taken given)
+    → HasCounted l.members l.fn.rule l.reading l.evidence taken given)

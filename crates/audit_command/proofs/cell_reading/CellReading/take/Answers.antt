@@ -9,10 +9,10 @@ use Rattle.audit_command.proofs.cell_reading.CellReading.take.Goals as goal
 pub returns-in_ok-count_part-in-More : goal.returns-in_ok-count_part-in-More
 returns-in_ok-count_part-in-More c = λ rule taken given had.
     let all = taken ++ c.args.piece.now in
-    let mark = c.after.result in
+    let mark = c.after-self.result in
     part_counted c.args.members.now rule c.args.evidence.now c.count_part.new.evidence taken given
     c.args.self.now had c.take.new.self mark c.count_part.new.self all c.in-More.part
-    (subst (IsMark rule.synced all (length had.1)) (sym c.after.ensures)
+    (subst (IsMark rule.synced all (length had.1)) (sym c.after-self.ensures)
     (mark_read rule.synced taken c.args.piece.now (length had.1) c.args.self.now.mark c.requires
     had.2.mark_is))
     (subst (Tells c.take.new.self all had.0) c.in-More.is
@@ -21,15 +21,15 @@ returns-in_ok-count_part-in-More c = λ rule taken given had.
 pub returns-in_ok-fault-in-Last : goal.returns-in_ok-fault-in-Last
 returns-in_ok-fault-in-Last c = λ rule taken given had.
     let all = taken ++ c.args.piece.now in
-    let mark = c.after.result in
+    let mark = c.after-self.result in
     let last = c.in-Last.last in
     let counted = c.in_ok-fault-in-Last.ensures in
     let tells = subst (Tells c.take.new.self all had.0) c.in-Last.is
     (c.in_ok-part.ensures taken had.0 had.2.told_is) in
-    let marked = subst (IsMark rule.synced all (length had.1)) (sym c.after.ensures)
+    let marked = subst (IsMark rule.synced all (length had.1)) (sym c.after-self.ensures)
     (mark_read rule.synced taken c.args.piece.now (length had.1) c.args.self.now.mark c.requires
     had.2.mark_is) in (
-      subst IsSome (sym counted.2.2.1)
+      subst IsSome (sym counted.3)
           (damage_amiss c.count_last.new.self.standing last.ending tells.0),
       λ more. last_counted c.args.members.now rule c.args.evidence.now c.count_last.new.evidence
           taken given c.args.self.now had c.take.new.self mark c.count_last.new.self (all ++ more)
