@@ -1,5 +1,5 @@
 -- The line of a version for which two bags are named.
-use Rattle.std.proofs.Common.{◌≡◌, ℕ, ◌+◌, ◌≤◌, Bool, true, false, cond, List, [], ◌∷◌}
+use Rattle.std.proofs.Common.{◌≡◌, ℕ, ◌≤◌, Bool, true, false, cond, List, [], ◌∷◌}
 use Rattle.std.proofs.Common.{◌++◌, length, refl, sym, ap, subst, ◌∙◌, append_assoc, arith}
 use Rattle.std.proofs.lemmas.Bool.{eqb-true}
 use Rattle.std.proofs.lemmas.List.Elements.{All-head, All-tail}
@@ -8,7 +8,7 @@ use Rattle.std.specs.List.{All, list_any, flat_map}
 use Rattle.fed_types.specs.declared.bag_id.BagId.{BagId}
 use Rattle.fed_types.specs.Laws.Slots.{same_slot_decides}
 use Rattle.fed_types.specs.Lists.{Has, here, there}
-use Rattle.fed_types.specs.Quorums.{QuorumSystem, quorums_of}
+use Rattle.fed_types.specs.Quorums.{quorums_of}
 use Rattle.fed_types.specs.Sites.{Membership}
 use Rattle.fed_types.specs.Slots.{SlotName, same_slot}
 use Rattle.outcomes.specs.Outcomes.{Outcome}
@@ -21,7 +21,7 @@ use Rattle.audit.specs.Findings.{IsFinding}
 use Rattle.audit.specs.Laws.{IsNamed, NameTwo}
 use Rattle.audit.proofs.Found.{two_found}
 use Rattle.audit_command.specs.declared.version.Version.{Version}
-use Rattle.audit_command.specs.Audits.{IsAudit, all_used, status_of}
+use Rattle.audit_command.specs.Audits.{IsAudit, all_used}
 use Rattle.audit_command.specs.CellReadings.{Reading, all_given}
 use Rattle.audit_command.specs.Conflicts.{HasLine, SaysConflict}
 use Rattle.audit_command.specs.Files.{Files}

@@ -1,5 +1,4 @@
 use Rattle.std.proofs.Common.{ℕ, length, subst, sym, ap, ◌∙◌}
-use Rattle.audit_command.specs.declared.mark.Mark.{Mark}
 use Rattle.audit_command.specs.declared.mark.Mark.TheVariants.{Ahead}
 use Rattle.audit_command.specs.inner.Marks.{IsMark}
 use Rattle.audit_command.proofs.Marks.{mark_passed}
