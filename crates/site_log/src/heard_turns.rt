@@ -101,13 +101,15 @@ impl HeardTurns {
         self.heard.get(self.marks.len())
     }
 
-    // How many turns this batch has besides. A deposit that came after others is for the next batch.
+    // How many datagrams this batch has after its first turn. A deposit that came after others is for
+    // the next batch.
     fn others(&self) -> usize {
-        let all = self.heard.len().saturating_sub(self.marks.len());
-        let others = all.saturating_sub(1);
+        let first = self.marks.len().saturating_add(1);
+        let others = self.heard.iter().skip(first);
+        let datagrams = others.filter(|it| it.from.is_some()).count();
         match self.heard.last() {
-            Some(last) if others > 0 && is_deposit(&last.bytes) => others.saturating_sub(1),
-            _ => others,
+            Some(last) if datagrams > 0 && is_deposit(&last.bytes) => datagrams.saturating_sub(1),
+            _ => datagrams,
         }
     }
 

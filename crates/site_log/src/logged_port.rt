@@ -45,4 +45,8 @@ impl<P: Port> Port for LoggedPort<'_, P> {
     fn will_say(&mut self, after: &[usize]) {
         self.log.will_note(after);
     }
+
+    fn awaits_turns(&mut self, deposits: u32) {
+        self.port.awaits_turns(deposits);
+    }
 }

@@ -175,8 +175,10 @@ impl<'a> SiteLog<'a> {
     /// The site has written this.
     pub(crate) fn wrote(&self, text: &[u8]) {
         if let Ok(mut state) = self.state.try_borrow_mut() {
-            // Without room for all of it nothing is noted.
-            if state.begun.reserve(text.len()).is_ok() {
+            // Without room for all of it nothing is noted. At the end of each line the two change
+            // places.
+            let room = text.len();
+            if state.begun.reserve(room).is_ok() && state.last.reserve(room).is_ok() {
                 self.take_text(&mut state, text);
             } else {
                 state.last.clear();

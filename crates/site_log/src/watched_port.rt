@@ -46,4 +46,8 @@ impl<P: Port> Port for WatchedPort<'_, P> {
     fn will_say(&mut self, after: &[usize]) {
         self.port.will_say(after);
     }
+
+    fn awaits_turns(&mut self, deposits: u32) {
+        self.port.awaits_turns(deposits);
+    }
 }

@@ -133,9 +133,12 @@ in_the_second_turn = refl
 pub and_no_third : left (idles (idles deposited 9100) 9200) 9200 9200 ≡ 1000
 and_no_third = refl
 
--- another deposit makes two more
-pub two_deposits : left (idles (idles (registers deposited) 9100) 9100) 9100 9100 ≡ 0
+-- another deposit makes two more; but while no quorum is heard, as here, they wait for the proposal
+pub two_deposits : (idles (idles (registers deposited) 9100) 9100).prompt ≡ 2
 two_deposits = refl
+
+pub one_proposal_alone : left (idles (idles (registers deposited) 9100) 9100) 9100 9100 ≡ 1000
+one_proposal_alone = refl
 
 -- nor are there more than a thousand, in which nothing is taken in
 pub thousand_and_no_more : (registers (record deposited { prompt = 999 })).prompt ≡ 1000
@@ -211,7 +214,7 @@ handed_out_is_nothing = refl
 abbrev alone : Pace
 alone = record (begins (record { first = 1; most = 60000; prompt = 2 }) None) {
   wait = 60000;
-  under_way = true;
+  under_way = 1;
 }
 
 -- a client asks for a bag that is pending: two turns come at once, but not before a second

@@ -1,5 +1,5 @@
 -- What a batch takes in, one after another.
-use Rattle.std.proofs.Common.{◌≡◌, ◌≢◌, ◌≤◌, ◌+◌, true, List, [], ◌∷◌, ◌++◌, length}
+use Rattle.std.proofs.Common.{◌≡◌, ◌≤◌, ◌+◌, true, List, [], ◌∷◌, ◌++◌, length}
 use Rattle.std.specs.Prelude.{IfOk}
 use Rattle.std.proofs.Common.{map, Option, Some, None, Result, Ok, Err, sym, ap, subst, ◌∙◌, arith}
 use Rattle.std.proofs.Common.{append_assoc, append-nil, inl, inr}
@@ -7,7 +7,7 @@ use Rattle.std.specs.Option.{option_to_list}
 use Rattle.std.proofs.lemmas.List.{length-map, map-append}
 use Rattle.fed_types.specs.Laws.Lists.{has_none, has_one, has_cases}
 use Rattle.udp_site.specs.declared.turn.Turn.{Turn}
-use Rattle.udp_site.specs.Traffic.{Taken, Nothing, Move, Took, Grows, taken}
+use Rattle.udp_site.specs.Traffic.{Taken, Move, Took, Grows, taken}
 use Rattle.udp_site.specs.BatchTurns.{AreTogether, joins, MOST_TURNS}
 use Rattle.udp_site.specs.inner.Batched.{TakesFirst, TakesIn, JoinsMore, carried_of}
 use Rattle.udp_site.specs.declared.fault.ServeFault.{ServeFault}
@@ -76,11 +76,11 @@ no_more a b c old now (more, are, join, grows) took = (
 -- the first turn, and those that joined it
 pub all_taken_in : (a b c : Option (List Move)) (old carried : Option Turn) (turn : Turn)
     (first batch : List Turn) → first ≡ turn ∷ [] → TakesFirst a b old turn
-    → JoinsMore b c first batch carried → taken turn ≢ Nothing
+    → JoinsMore b c first batch carried
     → length batch + length (option_to_list (carried_of carried)) ≤ MOST_TURNS
     → TakesIn a c old carried batch
 all_taken_in a b c old carried turn first batch is (came, begins, grows) (more, are, join, took)
-    not_idle most =
+    most =
     let rest = option_to_list (carried_of carried) in
     let batch_is : map taken batch ≡ taken turn ∷ more =
     are ∙ ap (λ ts. map taken ts ++ more) is in (
@@ -90,26 +90,11 @@ all_taken_in a b c old carried turn first batch is (came, begins, grows) (more, 
           ∙ ap (λ (l : List Taken). l ++ rest) (sym batch_is)),
       subst AreTogether (sym batch_is) (
         omega (arith, most, ap length batch_is, length-map batch taken),
-        λ x has. (not_idle, join x has),
+        join,
       ),
       subst (Grows a c) (sym (map-append Took came (more ++ rest)))
           (Grows-trans a b c (map Took came) (map Took (more ++ rest)) grows took),
     )
-
--- the first turn alone
-pub one_taken_in : (a b : Option (List Move)) (old carried : Option Turn) (turn : Turn)
-    (batch : List Turn) → batch ≡ turn ∷ [] → TakesFirst a b old turn → carried ≡ None
-    → TakesIn a b old carried batch
-one_taken_in a b old carried turn batch is (came, begins, grows) none = (
-  came,
-  begins
-      ∙ (ap (map taken) (sym is)
-      ∙ (sym (append-nil (map taken batch))
-      ∙ ap (λ (t : Option Turn). map taken batch ++ option_to_list (carried_of t)) (sym none))),
-  subst (λ (ts : List Turn). AreTogether (map taken ts)) (sym is)
-      (omega arith, λ x has. absurd (has_none has)),
-  grows,
-)
 
 -- nothing was carried, and this was received
 pub received_first : (a b : Option (List Move)) (old : Option Turn)

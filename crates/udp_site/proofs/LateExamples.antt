@@ -8,8 +8,8 @@ use Rattle.udp_site.specs.declared.pace.Pace.{Pace}
 use Rattle.udp_site.specs.declared.sign.Sign.TheVariants.{Still, Decides}
 use Rattle.udp_site.specs.declared.sign.Signal.{Signal}
 use Rattle.udp_site.specs.Contacts.{nobody_heard}
-use Rattle.udp_site.specs.Pace.{begins, hears, takes, proposes, registers, hands, wait_at, between}
-use Rattle.udp_site.specs.Pace.{pause_left}
+use Rattle.udp_site.specs.Pace.{begins, idles, hears, takes, proposes, registers, hands, wait_at}
+use Rattle.udp_site.specs.Pace.{between, pause_left}
 
 abbrev fresh : (weights : List ℕ) → Pace
 fresh weights =
@@ -26,9 +26,13 @@ promise = record { sign = Still; sender = Some 3 }
 abbrev own : Signal
 own = record { sign = Still; sender = None }
 
--- It proposes, and a promise comes; and so two and three times. With the next proposal it was late.
+-- It proposes after an idle turn
+abbrev next : Pace → Pace
+next pace = proposes (idles pace 9000000)
+
+-- and a promise comes; and so two and three times. With the next proposal it was late.
 abbrev late : Pace → Pace
-late pace = takes (proposes pace) 9000000 promise
+late pace = takes (next pace) 9000000 promise
 
 abbrev thrice : Pace → Pace
 thrice pace = late (late (late pace))
@@ -81,7 +85,7 @@ asked_after_five = refl
 
 -- Its own disk is slower still: not even what it has sent to itself comes between two proposals.
 abbrev busy : Pace
-busy = proposes (proposes (proposes (proposes (proposes of_three))))
+busy = next (next (next (next (next of_three))))
 
 pub nothing_comes : busy.answer_wait ≡ 1600
 unfolding with_voter sites_to is_in
@@ -90,7 +94,7 @@ nothing_comes = refl
 -- It is cut off, and what it sends to itself is all that comes: answers aren't late. As long as a
 -- quorum counts as heard it waits for half a second, and a question brings a proposal a second.
 abbrev cut_off : Pace → Pace
-cut_off pace = takes (proposes pace) 9000000 own
+cut_off pace = takes (next pace) 9000000 own
 
 abbrev alone : Pace
 alone = cut_off (cut_off (cut_off (cut_off (cut_off (late of_three)))))
@@ -116,7 +120,7 @@ too_few = refl
 abbrev promise_of_four : Signal
 promise_of_four = record { sign = Still; sender = Some 4 }
 
-pub two_of_five : (proposes (takes (takes (proposes (fresh (1 ∷ 1 ∷ 1 ∷ 1 ∷ 1 ∷ []))) 9000000
+pub two_of_five : (next (takes (takes (next (fresh (1 ∷ 1 ∷ 1 ∷ 1 ∷ 1 ∷ []))) 9000000
     promise) 9000001 promise_of_four)).answer_wait ≡ 200
 unfolding with_voter sites_to is_in
 two_of_five = refl
@@ -136,7 +140,7 @@ pub voted : wait_at (hears five Decides) 9000000 ≡ 100
 unfolding with_voter sites_to is_in
 voted = refl
 
-pub voted_and_proposes : (proposes (hears five Decides)).answer_wait ≡ 100
+pub voted_and_proposes : (next (hears five Decides)).answer_wait ≡ 100
 unfolding with_voter sites_to is_in
 voted_and_proposes = refl
 

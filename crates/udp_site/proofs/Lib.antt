@@ -1,4 +1,5 @@
 pub mod Handed
+pub mod Buffers
 pub mod HeldMore
 pub mod Said
 pub mod Called
@@ -21,6 +22,7 @@ pub mod Queried
 pub mod Examples
 pub mod ContactExamples
 pub mod LateExamples
+pub mod GroupExamples
 pub mod RoundExamples
 pub mod RecoveryExamples
 pub mod SignExamples

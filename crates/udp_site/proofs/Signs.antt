@@ -1,6 +1,6 @@
 -- What came while no proposal is under way changes no pace: what a site says to itself, where it
 -- can't be a vote; and what others say, where no wait has grown, and who says it is noted.
-use Rattle.std.proofs.Common.{◌≡◌, ℕ, ◌==◌, Bool, true, false, cond, List, refl, ap, sym, ◌∙◌}
+use Rattle.std.proofs.Common.{◌≡◌, ℕ, ◌==◌, ◌-◌, Bool, true, false, cond, List, refl, ap, sym, ◌∙◌}
 use Rattle.std.proofs.Common.{Option, Some, None}
 use Rattle.fields.proofs.Bytes.{IsBytes}
 use Rattle.dgram.specs.Decoded.{message_of}
@@ -41,11 +41,12 @@ if_false pace now false a b e same = same
 if_false pace now true a b e same = absurd (cc e)
 
 module _ (pace : Pace) (now own from federation : ℕ) (bytes : List ℕ) (are : IsBytes bytes)
-    (rests : pace.under_way ≡ false) where
+    (rests : pace.under_way ≡ 0) where
   -- no answer is awaited
   stays : (sender : Option ℕ) → arrives pace sender ≡ pace
   stays sender =
-      ap (λ (b : Bool). cond b (record pace { contacts = answered pace.contacts sender }) pace) rests
+      ap (λ (n : ℕ). cond (n == 0) pace (record pace { contacts = answered pace.contacts sender }))
+      rests
 
   -- no body but that of a vote
   own_by_body : (b : Body) → (kind_of b == ACCEPTED) ≡ false → takes pace now (own_signal_by b) ≡ pace
@@ -80,9 +81,14 @@ module _ (pace : Pace) (now own from federation : ℕ) (bytes : List ℕ) (are :
     moves = ap (λ (n : ℕ). record pace { wait = n }) (sym first)
 
     decides : hears pace signs.Decides ≡ pace
-    decides = ap (λ (p : Pace). record p { answer_wait = pace.waits.first; under_way = false }) moves
-        ∙ ap (λ (n : ℕ). record pace { answer_wait = n; under_way = false }) (sym early)
-        ∙ ap (λ (b : Bool). record pace { under_way = b }) (sym rests)
+    decides =
+        ap (λ (p : Pace). record p {
+          answer_wait = pace.waits.first;
+          under_way = pace.under_way - 1;
+        }) moves
+        ∙ ap (λ (n : ℕ). record pace { answer_wait = n; under_way = pace.under_way - 1 }) (sym early)
+        ∙ ap (λ (n : ℕ). record pace { under_way = n - 1 }) rests
+        ∙ ap (λ (n : ℕ). record pace { under_way = n }) (sym rests)
 
     -- no body does
     by_body : (b : Body) → hears pace (sign_by b) ≡ pace

@@ -2,7 +2,7 @@
 -- the rules of a single turn, and sees the records of those before it. Then their records are
 -- synced together; and only then is handed out what these turns hand out, and written what they
 -- say.
-use Rattle.std.specs.Prelude.{◌≡◌, ◌≢◌, ◌⊎◌, ◌<◌, ◌≤◌, ◌+◌, ℕ, Bool, true, false, not}
+use Rattle.std.specs.Prelude.{◌≡◌, ◌⊎◌, ◌<◌, ◌≤◌, ◌+◌, ℕ, Bool, true, false, not}
 use Rattle.std.specs.Prelude.{List, [], ◌∷◌, ◌++◌, length, map, take}
 use Rattle.std.specs.Prelude.{Option, None, Result, Ok, Err}
 use Rattle.std.specs.List.{flat_map}
@@ -36,18 +36,17 @@ use Rattle.udp_site.specs.Served.{Rule, Outside, Turned, notice_text, text_of}
 abbrev pub MOST_TURNS : ℕ
 MOST_TURNS = 64
 
--- what may come after others in a batch: a datagram, but none that has the kind of a deposit, whose
--- folder is read first. So nothing waits for a sync while a folder is read.
+-- what may come after others in a batch: an idle turn, or a datagram, but none that has the kind of a
+-- deposit, whose folder is read first. So nothing waits for a sync while a folder is read.
 abbrev pub joins : Taken → Bool
-joins Nothing = false
+joins Nothing = true
 joins (From from bytes) = not (is_deposit bytes)
 
--- what may be taken in together: one turn at least; and nothing joins one that is idle
+-- what may be taken in together: one turn at least
 abbrev pub AreTogether : List Taken → Type 0
 AreTogether [] = ⊥
 AreTogether (first ∷ more) =
-    (length more < MOST_TURNS)
-    × ((taken : Taken) → Has taken more → (first ≢ Nothing) × (joins taken ≡ true))
+    (length more < MOST_TURNS) × ((taken : Taken) → Has taken more → joins taken ≡ true)
 
 -- ---- a batch
 

@@ -38,15 +38,10 @@ IsReceived old new (Ok turn) = Grows old new (Took (taken turn) ∷ [])
 IsReceived old new (Err faults.Device) = Grows old new (Failed ∷ [])
 IsReceived old new (Err faults.Memory) = Grows old new []
 
--- a turn that brings a datagram
-abbrev pub IsDatagram : Turn → Type 0
-IsDatagram turns.Idle = ⊥
-IsDatagram (turns.Got from bytes) = ⊤
-
--- a datagram that is there is taken in, or nothing is
+-- what is there is taken in, or nothing is
 abbrev pub IsTakenIn : Option (List Move) → Option (List Move) → Option Turn → Type 0
 IsTakenIn old new None = Grows old new []
-IsTakenIn old new (Some turn) = IsDatagram turn × Grows old new (Took (taken turn) ∷ [])
+IsTakenIn old new (Some turn) = Grows old new (Took (taken turn) ∷ [])
 
 -- these datagrams are handed out, in order
 unfoldable pub all_handed : List Post → List Move

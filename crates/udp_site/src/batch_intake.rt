@@ -1,11 +1,11 @@
 //! What a batch takes in.
 
-ghost use Rattle.std.specs.Prelude.{◌≡◌, ◌≢◌, ◌≤◌, ◌+◌, false, not, length, None, vec_capacity};
+ghost use Rattle.std.specs.Prelude.{◌≡◌, ◌≤◌, ◌+◌, not, length, None, vec_capacity};
 ghost use Rattle.std.specs.Prelude.{OnOk, IfOk, IfErr};
 ghost use Rattle.std.specs.Option.{option_to_list};
 ghost use Rattle.udp_site.specs.BatchTurns.{joins};
 ghost use Rattle.udp_site.specs.Failures.{OnlyByFailing};
-ghost use Rattle.udp_site.specs.Traffic.{IsDatagram, Nothing, taken};
+ghost use Rattle.udp_site.specs.Traffic.{taken};
 ghost use Rattle.udp_site.specs.inner.Batched.{TakesIn, TakesFirst, TakesNone, JoinsMore};
 ghost use Rattle.udp_site.specs.inner.Batched.{carried_of};
 
@@ -41,11 +41,7 @@ pub(crate) fn take_in<P: Port>(
     let most = left.min(MOST_TURNS);
     let mut batch = Vec::with_capacity(alloc, most as usize)?;
     let first = take_first(port, carried)?;
-    let is_idle = is_idle(&first);
     batch.push_reserved(first);
-    if is_idle {
-        return Ok(batch);
-    }
     *carried = take_more(port, &mut batch, most);
     Ok(batch)
 }
@@ -66,13 +62,7 @@ fn take_first<P: Port>(port: &mut P, carried: &mut Option<Turn>) -> Result<Turn,
     }
 }
 
-fn is_idle(turn: &Turn) -> bool
-    ensures { result ≡ false → taken turn.now ≢ Nothing }
-{
-    matches!(turn, Turn::Idle)
-}
-
-// Takes in what has come after the first turn of a batch, up to so many turns in all. The answer is
+// Takes in what is there after the first turn of a batch, up to so many turns in all. The answer is
 // a deposit that came, which begins the next batch.
 fn take_more<P: Port>(port: &mut P, batch: &mut Vec<Turn>, most: u32) -> Option<Turn>
     requires first { length batch.old.items ≡ 1 }
@@ -95,7 +85,7 @@ fn take_more<P: Port>(port: &mut P, batch: &mut Vec<Turn>, most: u32) -> Option<
 
 // Whether a turn asks for a deposit, by the kind of what came.
 fn is_for_a_deposit(turn: &Turn) -> bool
-    ensures { IsDatagram turn.now → joins (taken turn.now) ≡ not result }
+    ensures { joins (taken turn.now) ≡ not result }
 {
     match turn {
         Turn::Idle => false,

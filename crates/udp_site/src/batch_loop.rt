@@ -43,11 +43,11 @@ use site::{Site, SiteFault};
 use std::alloc::Global;
 use std::io::Write;
 
-/// Serves `turns` turns, in batches. A batch receives once, and then takes in what has come, up to
-/// 64 datagrams in all. Each is a turn, as in `serve`, and sees the records of those before it.
-/// Then their records are appended and synced together, in the cell from which the site was parted.
-/// Then all their datagrams are handed out, and their lines are written. A deposit is the first of
-/// its batch, so that nothing waits while its folder is read. An idle turn is a batch of its own.
+/// Serves `turns` turns, in batches. A batch receives once, and then takes in what is there, up to
+/// 64 turns in all: datagrams that have come, and turns that are idle at once. Each sees the records
+/// of those before it, as in `serve`. Then their records are appended and synced together, in the
+/// cell from which the site was parted. Then all their datagrams are handed out, and their lines are
+/// written. A deposit is the first of its batch, so that nothing waits while its folder is read.
 ///
 /// `Cell`: the sync failed, and the site has to be opened again, from its cell. Nothing of the
 /// batch is handed out or written. But a line says that it failed, and so does a reply to the
@@ -183,7 +183,8 @@ impl<F: Folders> Server<'_, '_, '_, '_, '_, Waiting, HeldPort, F> {
         self.take_turns(batch, &mut marks)?;
         match self.site.sync(held) {
             Ok(synced) => {
-                self.port.release(synced, port, &marks)?;
+                let untried = self.untried();
+                self.port.release(synced, port, &marks, untried)?;
                 write_lines(self.alloc, self.lines, output)
             }
             Err(CommitFault::Memory) => Err(ServeFault::Memory),

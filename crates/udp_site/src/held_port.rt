@@ -42,12 +42,13 @@ impl HeldPort {
     }
 
     /// Hands out all that it holds at this port, in order, since the records are synced; and tells the
-    /// port which lines are to come.
+    /// port which lines are to come, and how many deposits wait for a turn.
     pub(crate) fn release<P: Port>(
         &mut self,
         _synced: Synced,
         port: &mut P,
         marks: &LineMarks,
+        untried: u32,
     ) -> Result<(), ServeFault>
         ensures hands { Hands (P.traffic port.old) (P.traffic port.new) (posts_held self.old)
             result }
@@ -57,6 +58,7 @@ impl HeldPort {
         let handed = send_held(port, &self.posts);
         self.posts.clear();
         port.will_say(marks.after());
+        port.awaits_turns(untried);
         handed
     }
 }

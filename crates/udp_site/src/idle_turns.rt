@@ -19,6 +19,9 @@ use fed_types::Slot;
 use records::{Entry, Record};
 use site::{Reply, Site};
 
+/// How many deposits are counted that wait for their first proposal.
+const MOST_UNTRIED: u32 = 32;
+
 /// How far the idle turns have come.
 #[derive(Drop)]
 pub(crate) struct IdleProgress {
@@ -53,6 +56,19 @@ impl<C: Cell, P: Port, F: Folders> Server<'_, '_, '_, '_, '_, C, P, F> {
         self.progress.tried = place + 1;
         let slot = slot.copy(self.alloc)?;
         self.propose(&slot)
+    }
+
+    /// How many deposits without a known bag come after the one that was tried last, up to as many as
+    /// a port counts.
+    pub(crate) fn untried(&self) -> u32 {
+        let mut from = self.progress.tried.max(self.progress.settled);
+        for count in 0..MOST_UNTRIED {
+            let Some(place) = first_waiting(self.site, from) else {
+                return count;
+            };
+            from = place + 1;
+        }
+        MOST_UNTRIED
     }
 
     // Proposes the slot's deposit.

@@ -35,7 +35,7 @@ impl MemoryPort {
     ghost use Rattle.udp_site.specs.Traffic.{Nothing, From};
     ghost use Rattle.udp_site.specs.MemoryPorts.{coming_of, fails_of, traffic_of, failures_of};
     ghost use Rattle.udp_site.specs.MemoryPorts.{move_of, WillBring};
-    ghost use Rattle.udp_site.specs.inner.Arrivals.{IsNext, IsNextDatagram};
+    ghost use Rattle.udp_site.specs.inner.Arrivals.{IsNext};
 
     /// A port to which nothing comes, and whose sends don't fail.
     pub fn new(alloc: Global) -> MemoryPort
@@ -119,7 +119,8 @@ impl MemoryPort {
 
     /// The datagram that comes next, twice, if one does.
     fn next_datagram(&self) -> Result<Option<(Turn, Turn)>, AllocError>
-        ensures { IfOk result (λ next. IfSome next (IsNextDatagram (coming_of self.now))) }
+        ensures { IfOk result
+            (λ next. IfSome next (λ turns. IsNext (coming_of self.now) (Some turns))) }
     {
         match self.arrivals.front() {
             Some(Arrival::Got(from, bytes)) => {

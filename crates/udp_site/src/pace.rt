@@ -1,9 +1,11 @@
-ghost use Rattle.std.specs.Prelude.{◌≡◌, ◌≤◌, ◌*◌};
+ghost use Rattle.std.specs.Prelude.{◌≡◌, ◌≤◌, ◌+◌, ◌*◌, min};
 ghost use Rattle.std.specs.Prelude.{ℕ, false, Some};
 ghost use Rattle.dgram.specs.Decoded.{message_of};
 ghost use Rattle.udp_site.specs.declared.sign.Sign.{Sign};
 ghost use Rattle.udp_site.specs.Pace.{begins, longer, idles, hears, meets, listens, arrives, takes};
-ghost use Rattle.udp_site.specs.Pace.{answers_late, proposes, registers, hands, hears_quorum};
+ghost use Rattle.udp_site.specs.Pace.{answers_late, proposes, proposes_first, proposes_more};
+ghost use Rattle.udp_site.specs.Pace.{registers, awaits_turns, hands, hears_quorum, is_prompt};
+ghost use Rattle.udp_site.specs.Pace.{goes_round, most_prompt};
 ghost use Rattle.udp_site.specs.Pace.{wait_at, between, pause, pause_left, at_most, left};
 ghost use Rattle.udp_site.specs.Signs.{signal_at};
 
@@ -31,6 +33,9 @@ const SECOND: u32 = 1000;
 /// How many turns are prompt at most: nothing is taken in meanwhile.
 const MOST_PROMPT: u32 = 1000;
 
+/// How many proposals a site makes at most without waiting for votes.
+const MOST_TOGETHER: u32 = 32;
+
 const MICROS: u64 = 1000;
 
 /// How long a port waits next. Moments are microseconds.
@@ -43,10 +48,12 @@ pub(crate) struct Pace {
     pub(crate) answer_wait: u32,
     /// When the wait of its last turn that was idle ended.
     pub(crate) idle_at: u64,
-    /// The site proposed, and neither votes nor a known bag have come since then.
-    pub(crate) under_way: bool,
-    /// How many turns are idle at once where no proposal is under way, since deposits were
-    /// registered.
+    /// When it did so last in a turn that was no prompt one, or went round.
+    pub(crate) round_at: u64,
+    /// How many proposals the site made together, less a vote or a known bag for each.
+    pub(crate) under_way: u32,
+    /// How many turns are idle at once where no proposal is under way, since deposits wait that
+    /// weren't proposed.
     pub(crate) prompt: u32,
     /// How many turns may be idle without a proposal before it is sure that there is none to make.
     pub(crate) due: u32,
@@ -69,7 +76,8 @@ impl Pace {
             wait: waits.first,
             answer_wait: waits.first,
             idle_at: 0,
-            under_way: false,
+            round_at: 0,
+            under_way: 0,
             prompt: 0,
             due: waits.prompt,
             asked: 0,
@@ -82,13 +90,37 @@ impl Pace {
     pub(crate) fn idles(&mut self, now: u64)
         ensures { self.new ≡ idles self.old now }
     {
-        if self.due == 0 {
+        let is_prompt = self.is_prompt(now);
+        let goes_round = self.goes_round(now);
+        let prompt = if is_prompt && goes_round {
+            self.more_prompt()
+        } else {
+            self.prompt
+        };
+        if !is_prompt || goes_round {
+            self.round_at = now;
+        }
+        if self.due == 0 && !is_prompt {
             self.wait = self.longer(self.wait);
         }
         self.idle_at = now;
-        self.prompt = self.prompt.saturating_sub(1);
+        self.prompt = prompt.saturating_sub(1);
         self.due = self.due.saturating_sub(1);
         self.asked = self.asked.saturating_sub(1);
+    }
+
+    // Whether the next turn is idle at once.
+    fn is_prompt(&self, now: u64) -> bool
+        ensures { result ≡ is_prompt self.now now }
+    {
+        self.prompt != 0 && self.under_way == 0 && (self.hears_quorum(now) || self.due != 0)
+    }
+
+    // Whether it is time to propose again what was proposed before.
+    fn goes_round(&self, now: u64) -> bool
+        ensures { result ≡ goes_round self.now now }
+    {
+        now.saturating_sub(self.round_at) >= self.pause()
     }
 
     // Twice this wait, up to the longest one.
@@ -107,7 +139,7 @@ impl Pace {
             → takes self.now now (signal_at own from (message_of federation bytes.now))
             ≡ self.now }
     {
-        if self.under_way {
+        if self.under_way != 0 {
             return true;
         }
         if own == from {
@@ -145,7 +177,7 @@ impl Pace {
     fn arrives(&mut self, sender: Option<SiteNo>)
         ensures { self.new ≡ arrives self.old sender }
     {
-        if !self.under_way {
+        if self.under_way == 0 {
             return;
         }
         if let Some(contacts) = &mut self.contacts {
@@ -172,7 +204,7 @@ impl Pace {
             Sign::Decides => {
                 self.wait = self.waits.first;
                 self.answer_wait = self.waits.first;
-                self.under_way = false;
+                self.under_way = self.under_way.saturating_sub(1);
             }
         }
     }
@@ -197,22 +229,54 @@ impl Pace {
         ensures { self.new ≡ registers self.old }
     {
         self.wait = self.waits.first;
-        self.prompt = self
-            .prompt
-            .saturating_add(self.waits.prompt)
-            .min(MOST_PROMPT);
+        self.prompt = self.more_prompt();
         self.due = self.waits.prompt;
+    }
+
+    // As many prompt turns as there are, and those that one more proposal needs.
+    fn more_prompt(&self) -> u32
+        ensures { result ≡ min (self.now.prompt + self.now.waits.prompt) most_prompt }
+    {
+        self.prompt
+            .saturating_add(self.waits.prompt)
+            .min(MOST_PROMPT)
+    }
+
+    /// So many of its deposits wait that weren't proposed in this round, as far as that is known.
+    pub(crate) fn awaits_turns(&mut self, deposits: u32)
+        ensures { self.new ≡ awaits_turns self.old deposits }
+    {
+        let deposits = deposits.min(MOST_TOGETHER);
+        self.prompt = deposits.saturating_mul(self.waits.prompt).min(MOST_PROMPT);
     }
 
     // The site proposes.
     fn proposes(&mut self)
         ensures { self.new ≡ proposes self.old }
     {
+        if self.due == self.waits.prompt && self.under_way != 0 {
+            self.proposes_more();
+        } else {
+            self.proposes_first();
+        }
+    }
+
+    // It proposes together with what is under way.
+    fn proposes_more(&mut self)
+        ensures { self.new ≡ proposes_more self.old }
+    {
+        self.under_way = self.under_way.saturating_add(1).min(MOST_TOGETHER);
+    }
+
+    // It proposes after an idle turn, or where nothing is under way.
+    fn proposes_first(&mut self)
+        ensures { self.new ≡ proposes_first self.old }
+    {
         if self.answers_late() {
             self.answer_wait = self.longer(self.answer_wait);
         }
         self.wait = self.longer(self.wait);
-        self.under_way = true;
+        self.under_way = 1;
         self.due = self.waits.prompt;
         self.asked = 0;
         self.proposed_at = self.idle_at;
@@ -226,7 +290,7 @@ impl Pace {
         ensures { result ≡ answers_late self.now }
     {
         match &self.contacts {
-            Some(contacts) => self.under_way && contacts.is_late(),
+            Some(contacts) => self.under_way != 0 && contacts.is_late(),
             None => false,
         }
     }
@@ -274,7 +338,7 @@ impl Pace {
         ensures between { result ≡ between self.now now }
         ensures within { result ≤ 10 * 4294967295 }
     {
-        if self.prompt != 0 && !self.under_way {
+        if self.is_prompt(now) {
             return 0;
         }
         let waits = FIRST_WAITS * u64::from(self.waits.first);

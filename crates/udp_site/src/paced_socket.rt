@@ -1,11 +1,11 @@
 //! A socket, and how long it is waited at.
 
-ghost use Rattle.std.specs.Prelude.{◌≡◌, ◌≤◌, ℕ, length, false, IfOk, OnErr, IfSome};
+ghost use Rattle.std.specs.Prelude.{◌≡◌, ◌≤◌, ℕ, length, false, IfOk, IfSome};
 ghost use Rattle.dgram.specs.Decoded.{message_of};
-ghost use Rattle.udp_site.specs.Pace.{begins, takes, hands, pause};
+ghost use Rattle.udp_site.specs.Pace.{begins, idles, takes, hands, awaits_turns, pause};
 ghost use Rattle.udp_site.specs.Recoveries.{none_handed_on, is_early, hands_on};
 ghost use Rattle.udp_site.specs.Signs.{signal_at};
-ghost use Rattle.udp_site.specs.inner.Paced.{Waited, IsTaken, EndsWait};
+ghost use Rattle.udp_site.specs.inner.Paced.{EndsWait};
 
 use crate::contacts::Contacts;
 use crate::origins::Origins;
@@ -127,40 +127,7 @@ impl<R: Clock + Drop> PacedSocket<R> {
     /// turn is idle. Where the pace says so at once, what has come stays in the socket. A datagram
     /// from another address is passed over, and so is a client's request to recover that comes too
     /// early.
-    pub(crate) fn take(&mut self, buffer: &mut [u8]) -> io::Result<Option<Arrival>>
-        ensures taken { IfOk result
-            (λ got. IfSome got (IsTaken self.old.pace self.old.recoveries buffer.new)) }
-        ensures paced { IfOk result (Waited self.old.pace self.new.pace) }
-        ensures same { OnErr result (self.new.pace ≡ self.old.pace) }
-        ensures recoveries { self.new.recoveries ≡ self.old.recoveries }
-    {
-        match self.wait_for(buffer)? {
-            End::Taken(arrival) => Ok(Some(arrival)),
-            End::Idle { now, .. } => {
-                self.pace.idles(now);
-                Ok(None)
-            }
-        }
-    }
-
-    /// Takes a datagram that is there into the buffer, and waits for none. One that is passed over
-    /// is as none.
-    pub(crate) fn take_waiting(&self, buffer: &mut [u8]) -> io::Result<Option<Arrival>>
-        ensures { IfOk result
-            (λ got. IfSome got (IsTaken self.now.pace self.now.recoveries buffer.new)) }
-    {
-        let now = self.moment()?;
-        let Some((from, count)) = self.taken(buffer)? else {
-            return Ok(None);
-        };
-        if self.is_early(now, &buffer[..count]) {
-            return Ok(None);
-        }
-        Ok(Some(Arrival { from, count, now }))
-    }
-
-    // Waits for a datagram, or until nothing is left of the waits.
-    fn wait_for(&self, buffer: &mut [u8]) -> io::Result<End>
+    pub(crate) fn wait_for(&self, buffer: &mut [u8]) -> io::Result<End>
         ensures { IfOk result (EndsWait self.now.pace self.now.recoveries buffer.new) }
     {
         let began = self.moment()?;
@@ -177,6 +144,41 @@ impl<R: Clock + Drop> PacedSocket<R> {
             }
         }
         Err(ErrorKind::TimedOut.into())
+    }
+
+    /// The same without waiting: the turn is idle where that is due now, or a datagram is taken that
+    /// is there. One that is passed over is as none.
+    pub(crate) fn look_for(&self, buffer: &mut [u8]) -> io::Result<Option<End>>
+        ensures { IfOk result
+            (λ got. IfSome got (EndsWait self.now.pace self.now.recoveries buffer.new)) }
+    {
+        let now = self.moment()?;
+        if self.pace.left(now, now) == 0 {
+            return Ok(Some(End::Idle { began: now, now }));
+        }
+        let Some((from, count)) = self.taken(buffer)? else {
+            return Ok(None);
+        };
+        if self.is_early(now, &buffer[..count]) {
+            return Ok(None);
+        }
+        Ok(Some(End::Taken(Arrival { from, count, now })))
+    }
+
+    /// The turn is idle at this moment.
+    pub(crate) fn idles(&mut self, now: u64)
+        ensures pace { self.new.pace ≡ idles self.old.pace now }
+        ensures recoveries { self.new.recoveries ≡ self.old.recoveries }
+    {
+        self.pace.idles(now);
+    }
+
+    /// So many deposits of the site wait that it hasn't proposed yet.
+    pub(crate) fn awaits_turns(&mut self, deposits: u32)
+        ensures pace { self.new.pace ≡ awaits_turns self.old.pace deposits }
+        ensures recoveries { self.new.recoveries ≡ self.old.recoveries }
+    {
+        self.pace.awaits_turns(deposits);
     }
 
     // Whether this is a request to recover that comes too early.

@@ -20,8 +20,8 @@ pub trait Port {
         ensures received { IsReceived (traffic self.old) (traffic self.new) result }
         ensures cause { HasCause faults.Device (failures self.old) (failures self.new) result };
 
-    /// Takes in a datagram that is there, and waits for none. `None`: none is there, or it couldn't
-    /// be taken in; if that goes on, `receive` says so.
+    /// Takes in a datagram that is there, and waits for none; or the turn is idle, where that is due
+    /// at once. `None`: none is there, or it couldn't be taken in; if that goes on, `receive` says so.
     fn try_receive(&mut self) -> Option<Turn>
         ensures taken { IsTakenIn (traffic self.old) (traffic self.new) result }
         ensures later { failures self.old ≤ failures self.new };
@@ -35,6 +35,13 @@ pub trait Port {
     /// What is written next are the lines of a batch: how many there are after each of its turns.
     /// A port that is logged tells its log, which says with each line what came.
     fn will_say(&mut self, _after: &[usize])
+        ensures traffic { traffic self.new ≡ traffic self.old }
+        ensures failures { failures self.new ≡ failures self.old }
+    {}
+
+    /// After a batch so many deposits of the site wait that it hasn't proposed yet, as far as they
+    /// were counted. A port may have as many turns idle at once as the site needs to propose them.
+    fn awaits_turns(&mut self, _deposits: u32)
         ensures traffic { traffic self.new ≡ traffic self.old }
         ensures failures { failures self.new ≡ failures self.old }
     {}

@@ -1,6 +1,6 @@
 use crate::contacts::Contacts;
 use crate::origins::Origins;
-use crate::paced_socket::{Arrival, PacedSocket};
+use crate::paced_socket::{Arrival, End, PacedSocket};
 use crate::port::Port;
 use crate::port_fault::PortFault;
 use crate::sign::signal_of;
@@ -159,7 +159,7 @@ impl<R: Clock + Drop> Port for UdpPort<R> {
     ghost use Rattle.std.specs.Prelude.{◌≡◌, None, Ok, IfSome, IfNone};
     ghost use Rattle.cell_device.specs.Calls.{HasCause};
     ghost use Rattle.udp_site.specs.declared.port_fault.PortFault.TheVariants as faults;
-    ghost use Rattle.udp_site.specs.Pace.{hands};
+    ghost use Rattle.udp_site.specs.Pace.{hands, awaits_turns};
     ghost use Rattle.udp_site.specs.Traffic.{IsReceived, IsTakenIn, IsHanded};
     ghost use Rattle.udp_site.specs.UdpPorts.{failures_of, pace_of, recoveries_of, own_of};
     ghost use Rattle.udp_site.specs.UdpPorts.{IsPaced, IsAsBefore};
@@ -185,7 +185,7 @@ impl<R: Clock + Drop> Port for UdpPort<R> {
         ensures paced { IfSome result (λ turn. IsPaced self.old self.new (Ok turn)) }
         ensures same { IfNone result (IsAsBefore self.old self.new) }
     {
-        datagram_at(self.alloc, self.federation, self.own, &mut self.socket).unwrap_or(None)
+        turn_now(self.alloc, self.federation, self.own, &mut self.socket).unwrap_or(None)
     }
 
     fn send(&mut self, to: Address, bytes: &[u8]) -> Result<(), PortFault>
@@ -202,6 +202,14 @@ impl<R: Clock + Drop> Port for UdpPort<R> {
             Err(error) => Err(self.fail(&error)),
         }
     }
+
+    fn awaits_turns(&mut self, deposits: u32)
+        ensures failures { failures_of self.new ≡ failures_of self.old }
+        ensures paced { pace_of self.new ≡ awaits_turns (pace_of self.old) deposits }
+        ensures recoveries { recoveries_of self.new ≡ recoveries_of self.old }
+    {
+        self.socket.awaits_turns(deposits);
+    }
 }
 
 ghost use Rattle.std.specs.Prelude.{◌≡◌, IfOk, OnOk, OnErr, IfSome, IfNone};
@@ -209,8 +217,7 @@ ghost use Rattle.dgram.specs.Decoded.{message_of};
 ghost use Rattle.udp_site.specs.Pace.{begins, takes};
 ghost use Rattle.udp_site.specs.Recoveries.{none_handed_on};
 ghost use Rattle.udp_site.specs.Signs.{signal_at};
-ghost use Rattle.udp_site.specs.Traffic.{IsDatagram};
-ghost use Rattle.udp_site.specs.inner.Paced.{TurnIsPaced};
+ghost use Rattle.udp_site.specs.inner.Paced.{EndsWait, TurnIsPaced};
 
 /// A socket at this address, and its own address.
 fn open<R: Net + Clock + Drop + Copy>(
@@ -242,19 +249,12 @@ fn turn_at<R: Clock + Drop>(
 {
     // There is room before a datagram is taken, so that none is lost for want of it.
     let mut bytes = vec![in alloc; 0; MOST_BYTES]?;
-    match socket.take(&mut bytes)? {
-        Some(Arrival { from, count, now }) => {
-            bytes.truncate(count);
-            learn(alloc, federation, own, socket, now, from, &bytes)?;
-            socket.hands_on(now, &bytes);
-            Ok(Turn::Got(from, bytes))
-        }
-        None => Ok(Turn::Idle),
-    }
+    let end = socket.wait_for(&mut bytes)?;
+    turn_of(alloc, federation, own, socket, end, bytes)
 }
 
-/// Takes a datagram that is there, and waits for none.
-fn datagram_at<R: Clock + Drop>(
+/// The same without waiting, if a turn is there.
+fn turn_now<R: Clock + Drop>(
     alloc: Global,
     federation: u64,
     own: Address,
@@ -267,17 +267,43 @@ fn datagram_at<R: Clock + Drop>(
         (λ got. IfNone got (socket.new.recoveries ≡ socket.old.recoveries)) }
     ensures failed { OnErr result ((socket.new.pace ≡ socket.old.pace)
         × (socket.new.recoveries ≡ socket.old.recoveries)) }
-    ensures datagram { IfOk result (λ got. IfSome got IsDatagram) }
 {
     // There is room before a datagram is taken, so that none is lost for want of it.
     let mut bytes = vec![in alloc; 0; MOST_BYTES]?;
-    let Some(Arrival { from, count, now }) = socket.take_waiting(&mut bytes)? else {
+    let Some(end) = socket.look_for(&mut bytes)? else {
         return Ok(None);
     };
-    bytes.truncate(count);
-    learn(alloc, federation, own, socket, now, from, &bytes)?;
-    socket.hands_on(now, &bytes);
-    Ok(Some(Turn::Got(from, bytes)))
+    let turn = turn_of(alloc, federation, own, socket, end, bytes)?;
+    Ok(Some(turn))
+}
+
+/// The turn that ends so, with what was taken into the buffer.
+fn turn_of<R: Clock + Drop>(
+    alloc: Global,
+    federation: u64,
+    own: Address,
+    socket: &mut PacedSocket<R>,
+    end: End,
+    mut bytes: Vec<u8>,
+) -> io::Result<Turn>
+    requires ends { EndsWait socket.old.pace socket.old.recoveries bytes.items end }
+    ensures paced { IfOk result (TurnIsPaced federation own socket.old.pace socket.new.pace
+        socket.old.recoveries socket.new.recoveries) }
+    ensures same { OnErr result (socket.new.pace ≡ socket.old.pace) }
+    ensures recoveries { OnErr result (socket.new.recoveries ≡ socket.old.recoveries) }
+{
+    match end {
+        End::Taken(Arrival { from, count, now }) => {
+            bytes.truncate(count);
+            learn(alloc, federation, own, socket, now, from, &bytes)?;
+            socket.hands_on(now, &bytes);
+            Ok(Turn::Got(from, bytes))
+        }
+        End::Idle { now, .. } => {
+            socket.idles(now);
+            Ok(Turn::Idle)
+        }
+    }
 }
 
 /// The pace of the socket learns from what came at this moment from an address. A datagram is decoded

@@ -1,5 +1,5 @@
 -- What a turn comes to for the pace of a socket.
-use Rattle.std.specs.Prelude.{◌≡◌, ◌≤◌, ℕ, false, List, length, take, Option, Some, None}
+use Rattle.std.specs.Prelude.{◌≡◌, ◌≤◌, ℕ, false, List, length, take}
 use Rattle.dgram.specs.Decoded.{message_of}
 use Rattle.udp_site.specs.declared.pace.Pace.{Pace}
 use Rattle.udp_site.specs.declared.paced_socket.Arrival.{Arrival}
@@ -26,11 +26,6 @@ EndsWait pace recoveries buffer (ends.Idle began now) = left pace began now ≡ 
 -- a turn was idle at a moment when it had nothing left to wait
 abbrev pub IsIdled : (old new : Pace) → Type 0
 IsIdled old new = (began : ℕ) × (now : ℕ) × (left old began now ≡ 0) × (new ≡ idles old now)
-
--- nothing was taken, or something, which changes nothing yet
-abbrev pub Waited : {T : Type 0} → (old new : Pace) → Option T → Type 0
-Waited old new None = IsIdled old new
-Waited old new (Some taken) = new ≡ old
 
 -- A turn was idle, or took a datagram at a moment, from which the pace learns. A Recover is taken
 -- only where it doesn't come too early, and later ones are early by it.

@@ -12,5 +12,4 @@ returns-clause-taken g c =
     (c.push_reserved.ensures.items
     ∙ ap (λ (l : List Turn). l ++ turn ∷ []) c.in_ok-batch.ensures.items)
     c.in_ok-first.ensures.first c.take_more.ensures.joined
-    (c.is_idle-is_idle.ensures c.if-is_idle.false)
     (omega (arith, c.take_more.ensures.count, c.min-most.ensures))

@@ -11,8 +11,8 @@ datagrams-preserved g c =
           one_joined (g.P.Port.traffic c.args.port.now) (g.P.Port.traffic c.datagrams.port)
           (g.P.Port.traffic c.try_receive.new.self) c.args.batch.now.items
           c.datagrams.batch.items c.push_reserved.new.self.items turn
-          c.datagrams.invariant.joined came.1
-          (c.is_for_a_deposit.ensures came.0 ∙ ap not c.if-is_for_a_deposit.false)
+          c.datagrams.invariant.joined came
+          (c.is_for_a_deposit.ensures ∙ ap not c.if-is_for_a_deposit.false)
           c.push_reserved.ensures.items;
       count =
           omega (

@@ -5,11 +5,11 @@ use Rattle.udp_site.proofs.pace.Pace.heeds.Goals as goal
 pub returns-then-eq : goal.returns-then-eq
 returns-then-eq c = λ isnt federation.
     own_changes_nothing c.args.self.now c.args.now c.args.own c.args.from federation
-    c.args.bytes.now (λ i. omega (arith, c.type_inv.bytes i)) c.if-self.false (sym c.eq.ensures ∙ c.if-eq.true)
+    c.args.bytes.now (λ i. omega (arith, c.type_inv.bytes i)) c.if-self-ne0.false (sym c.eq.ensures ∙ c.if-eq.true)
     (sym c.is_vote.ensures ∙ isnt)
 
 pub returns : goal.returns
 returns c = λ isnt federation.
     nothing_changes c.args.self.now c.args.now c.args.own c.args.from federation
-    c.args.bytes.now (λ i. omega (arith, c.type_inv.bytes i)) c.if-self.false c.if-self-2.false
-    c.if-self-3.false (c.wants_contacts.ensures isnt) (sym c.eq.ensures ∙ c.if-eq.false)
+    c.args.bytes.now (λ i. omega (arith, c.type_inv.bytes i)) c.if-self-ne0.false c.if-self.false
+    c.if-self-2.false (c.wants_contacts.ensures isnt) (sym c.eq.ensures ∙ c.if-eq.false)

@@ -1,0 +1,15 @@
+use Rattle.std.proofs.Common.{sym, subst, ◌∙◌, ℕ, List}
+use Rattle.udp_site.specs.inner.Paced.{EndsWait}
+use Rattle.udp_site.proofs.Buffers.{all_read}
+use Rattle.udp_site.proofs.udp_port.turn_at.Goals as goal
+
+pub turn_of-requires : goal.turn_of-requires
+turn_of-requires g c =
+    let was = c.args.socket.now in
+    let bytes = c.in_ok-bytes.bytes in
+    record {
+      ends =
+          subst (λ (buffer : List ℕ). EndsWait was.pace was.recoveries buffer c.in_ok-end.end)
+          (sym (all_read bytes.len c.wait_for.new.buffer bytes.items
+          (c.wait_for.auto.buffer ∙ c.deref_mut.ensures.len))) c.in_ok-end.ensures;
+    }
