@@ -59,8 +59,8 @@ impl HeardTurns {
         }
     }
 
-    /// The lines of the batch that was taken in are written next. There are so many after each of its
-    /// turns.
+    /// The lines of the batch that was taken in are written next. There are so many after each of
+    /// its turns.
     pub(crate) fn speaks(&mut self, after: &[usize]) {
         let told = self.marks.len().min(self.heard.len());
         match self.heard.split_off(told) {
@@ -80,8 +80,8 @@ impl HeardTurns {
         self.written = self.written.saturating_add(1);
     }
 
-    /// What the next line is about: the turn that it is of; or, where none is marked, the batch that
-    /// is taken in.
+    /// What the next line is about: the turn that it is of; or, where none is marked, the batch
+    /// that is taken in.
     pub(crate) fn subject(&self) -> Subject<'_> {
         let written = self.written;
         match self.marks.iter().position(|after| written < *after) {
@@ -101,8 +101,8 @@ impl HeardTurns {
         self.heard.get(self.marks.len())
     }
 
-    // How many datagrams this batch has after its first turn. A deposit that came after others is for
-    // the next batch.
+    // How many datagrams this batch has after its first turn. A deposit that came after others is
+    // for the next batch.
     fn others(&self) -> usize {
         let first = self.marks.len().saturating_add(1);
         let others = self.heard.iter().skip(first);

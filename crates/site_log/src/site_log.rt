@@ -344,8 +344,8 @@ impl<'a> SiteLog<'a> {
         Ok(line)
     }
 
-    // The line that the site has written, and after `refused` what was asked for; where a whole batch
-    // was refused, also how many other datagrams it had.
+    // The line that the site has written, and after `refused` what was asked for; where a whole
+    // batch was refused, also how many other datagrams it had.
     fn line_of(&self, state: &State) -> Result<String, AllocError> {
         let Subject { heard, others } = state.heard.subject();
         let mut line = self.heading(from_of(heard))?;

@@ -86,7 +86,10 @@ module _ (pace : Pace) (now own from federation : ℕ) (bytes : List ℕ) (are :
           answer_wait = pace.waits.first;
           under_way = pace.under_way - 1;
         }) moves
-        ∙ ap (λ (n : ℕ). record pace { answer_wait = n; under_way = pace.under_way - 1 }) (sym early)
+        ∙ ap (λ (n : ℕ). record pace {
+          answer_wait = n;
+          under_way = pace.under_way - 1;
+        }) (sym early)
         ∙ ap (λ (n : ℕ). record pace { under_way = n - 1 }) rests
         ∙ ap (λ (n : ℕ). record pace { under_way = n }) (sym rests)
 

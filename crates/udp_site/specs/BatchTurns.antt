@@ -36,8 +36,8 @@ use Rattle.udp_site.specs.Served.{Rule, Outside, Turned, notice_text, text_of}
 abbrev pub MOST_TURNS : ℕ
 MOST_TURNS = 64
 
--- what may come after others in a batch: an idle turn, or a datagram, but none that has the kind of a
--- deposit, whose folder is read first. So nothing waits for a sync while a folder is read.
+-- what may come after others in a batch: an idle turn, or a datagram, but none that has the kind of
+-- a deposit, whose folder is read first. So nothing waits for a sync while a folder is read.
 abbrev pub joins : Taken → Bool
 joins Nothing = true
 joins (From from bytes) = not (is_deposit bytes)

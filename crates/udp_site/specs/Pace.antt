@@ -57,9 +57,9 @@ is_prompt pace now =
 abbrev pub pause : Pace → ℕ
 pause pace = 1000 * max 1000 pace.answer_wait
 
--- Prompt turns are for deposits that weren't proposed yet. Where no other turn was idle for so long,
--- as under load, there are as many more as one proposal needs: one that was made before, and may be
--- lost, is made again.
+-- Prompt turns are for deposits that weren't proposed yet. Where no other turn was idle for so
+-- long, as under load, there are as many more as one proposal needs: one that was made before, and
+-- may be lost, is made again.
 abbrev pub goes_round : Pace → (now : ℕ) → Bool
 goes_round pace now = not (nat_lt (now - pace.round_at) (pause pace))
 
@@ -197,8 +197,9 @@ wait_at pace now =
     then max pace.answer_wait (min pace.wait (max pace.waits.first 500)) else pace.wait
 
 -- How long after an idle turn the next one comes, whatever else does: at once where it is prompt;
--- else ten first waits, 250 ms at least, and its wait. First waits, and not those that have grown: site N proposes in each N-th idle turn,
--- and where clients ask all the time site 3 would else wait for 10, 20 and 40 waits.
+-- else ten first waits, 250 ms at least, and its wait. First waits, and not those that have grown:
+-- site N proposes in each N-th idle turn, and where clients ask all the time site 3 would else wait
+-- for 10, 20 and 40 waits.
 abbrev pub between : Pace → (now : ℕ) → ℕ
 between pace now =
     if is_prompt pace now

@@ -44,10 +44,11 @@ use std::alloc::Global;
 use std::io::Write;
 
 /// Serves `turns` turns, in batches. A batch receives once, and then takes in what is there, up to
-/// 64 turns in all: datagrams that have come, and turns that are idle at once. Each sees the records
-/// of those before it, as in `serve`. Then their records are appended and synced together, in the
-/// cell from which the site was parted. Then all their datagrams are handed out, and their lines are
-/// written. A deposit is the first of its batch, so that nothing waits while its folder is read.
+/// 64 turns in all: datagrams that have come, and turns that are idle at once. Each sees the
+/// records of those before it, as in `serve`. Then their records are appended and synced together,
+/// in the cell from which the site was parted. Then all their datagrams are handed out, and their
+/// lines are written. A deposit is the first of its batch, so that nothing waits while its folder
+/// is read.
 ///
 /// `Cell`: the sync failed, and the site has to be opened again, from its cell. Nothing of the
 /// batch is handed out or written. But a line says that it failed, and so does a reply to the
@@ -197,8 +198,8 @@ impl<F: Folders> Server<'_, '_, '_, '_, '_, Waiting, HeldPort, F> {
         }
     }
 
-    // Takes the turns of a batch: what they hand out is held, and what they say are lines, which are
-    // marked.
+    // Takes the turns of a batch: what they hand out is held, and what they say are lines, which
+    // are marked.
     fn take_turns(&mut self, batch: &[Turn], marks: &mut LineMarks) -> Result<(), ServeFault>
         requires idle { self.old.progress.idle + length batch.now ≤ 4294967295 }
         requires empty { posts_held self.old.port.now ≡ [] }

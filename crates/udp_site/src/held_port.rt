@@ -41,8 +41,8 @@ impl HeldPort {
         }
     }
 
-    /// Hands out all that it holds at this port, in order, since the records are synced; and tells the
-    /// port which lines are to come, and how many deposits wait for a turn.
+    /// Hands out all that it holds at this port, in order, since the records are synced; and tells
+    /// the port which lines are to come, and how many deposits wait for a turn.
     pub(crate) fn release<P: Port>(
         &mut self,
         _synced: Synced,

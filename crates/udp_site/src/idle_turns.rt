@@ -58,8 +58,8 @@ impl<C: Cell, P: Port, F: Folders> Server<'_, '_, '_, '_, '_, C, P, F> {
         self.propose(&slot)
     }
 
-    /// How many deposits without a known bag come after the one that was tried last, up to as many as
-    /// a port counts.
+    /// How many deposits without a known bag come after the one that was tried last, up to as many
+    /// as a port counts.
     pub(crate) fn untried(&self) -> u32 {
         let mut from = self.progress.tried.max(self.progress.settled);
         for count in 0..MOST_UNTRIED {

@@ -3,7 +3,8 @@
 /// The most turns of a batch.
 const MOST_TURNS: usize = 64;
 
-/// How many lines there are after each turn of a batch. No clause speaks of them: they are for logs.
+/// How many lines there are after each turn of a batch. No clause speaks of them: they are for
+/// logs.
 #[derive(Clone, Copy, Debug)]
 pub(crate) struct LineMarks {
     after: [usize; MOST_TURNS],

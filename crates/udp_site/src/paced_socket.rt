@@ -146,8 +146,8 @@ impl<R: Clock + Drop> PacedSocket<R> {
         Err(ErrorKind::TimedOut.into())
     }
 
-    /// The same without waiting: the turn is idle where that is due now, or a datagram is taken that
-    /// is there. One that is passed over is as none.
+    /// The same without waiting: the turn is idle where that is due now, or a datagram is taken
+    /// that is there. One that is passed over is as none.
     pub(crate) fn look_for(&self, buffer: &mut [u8]) -> io::Result<Option<End>>
         ensures { IfOk result
             (λ got. IfSome got (EndsWait self.now.pace self.now.recoveries buffer.new)) }

@@ -20,8 +20,9 @@ pub trait Port {
         ensures received { IsReceived (traffic self.old) (traffic self.new) result }
         ensures cause { HasCause faults.Device (failures self.old) (failures self.new) result };
 
-    /// Takes in a datagram that is there, and waits for none; or the turn is idle, where that is due
-    /// at once. `None`: none is there, or it couldn't be taken in; if that goes on, `receive` says so.
+    /// Takes in a datagram that is there, and waits for none; or the turn is idle, where that is
+    /// due at once. `None`: none is there, or it couldn't be taken in; if that goes on, `receive`
+    /// says so.
     fn try_receive(&mut self) -> Option<Turn>
         ensures taken { IsTakenIn (traffic self.old) (traffic self.new) result }
         ensures later { failures self.old ≤ failures self.new };

@@ -5,8 +5,8 @@ use Rattle.udp_site.proofs.pace.Pace.heeds.Goals as goal
 pub returns-then-eq : goal.returns-then-eq
 returns-then-eq c = λ isnt federation.
     own_changes_nothing c.args.self.now c.args.now c.args.own c.args.from federation
-    c.args.bytes.now (λ i. omega (arith, c.type_inv.bytes i)) c.if-self-ne0.false (sym c.eq.ensures ∙ c.if-eq.true)
-    (sym c.is_vote.ensures ∙ isnt)
+    c.args.bytes.now (λ i. omega (arith, c.type_inv.bytes i)) c.if-self-ne0.false
+    (sym c.eq.ensures ∙ c.if-eq.true) (sym c.is_vote.ensures ∙ isnt)
 
 pub returns : goal.returns
 returns c = λ isnt federation.
