@@ -9,7 +9,7 @@ use std::io::{self, ErrorKind};
 use system_files::FileId;
 
 /// The path of the file in which the site of the cell of this path says how much is synced.
-pub(crate) fn path_beside(alloc: Global, path: &str) -> Result<String, AllocError>
+pub fn path_beside(alloc: Global, path: &str) -> Result<String, AllocError>
     ensures { IfOk result (λ beside. string_bytes beside ≡ path_beside path.now) }
 {
     let mut beside = String::from_str(alloc, path)?;

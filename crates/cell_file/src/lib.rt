@@ -23,6 +23,7 @@ mod synced_text;
 mod text_end;
 mod unopened;
 
+pub use beside::path_beside;
 use cell_device::FileCell;
 pub use host_file::HostFile;
 pub use opening::{Creation, open_cell};

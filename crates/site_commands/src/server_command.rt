@@ -16,12 +16,13 @@ use crate::stop::{Stop, write_stop};
 use crate::udp_socket::site_socket;
 use addresses::Address;
 use bag_folders::{Folders, RememberingFolders};
-use cell_file::DiskCell;
+use cell_file::{DiskCell, path_beside};
 use fed_types::Members;
 use outcomes::ProgramFault;
 use records::Owner;
 use site_log::{LoggedFolders, LoggedOutput, LoggedPort, SiteLog, Watch, WatchedPort};
 use site_words::{Asked, SpokenOutput};
+use std::alloc::AllocError;
 use std::fs;
 use std::io::{ErrorKind, Write};
 use udp_site::{Port, UdpPort};
@@ -42,12 +43,30 @@ pub fn serve_site<'a>(rt: &'a HostRuntime, task: &SiteTask<'a>) -> Result<u8, Pr
     answer
 }
 
-// Refuses a log that is the cell, the members file or the key file, before it is made or written.
+// Refuses a log that is the cell, the file beside it, the members file or the key file, before it is
+// made or written.
 fn expect_log_apart(rt: &HostRuntime, task: &SiteTask<'_>, path: &str) -> Result<(), Stop> {
     let option = "--log";
     expect_apart(rt, cell_named(task), NamedFile { option, path })?;
+    expect_apart_from_lengths(rt, task, NamedFile { option, path })?;
     expect_apart(rt, members_named(task), NamedFile { option, path })?;
     expect_key_apart(rt, task, NamedFile { option, path })
+}
+
+// Refuses a file that is the one beside the cell, in which the site says how much is synced.
+fn expect_apart_from_lengths(
+    rt: &HostRuntime,
+    task: &SiteTask<'_>,
+    other: NamedFile<'_>,
+) -> Result<(), Stop> {
+    match path_beside(rt.alloc(), task.cell) {
+        Ok(beside) => {
+            let option = "--cell's own";
+            let path = beside.as_str();
+            expect_apart(rt, NamedFile { option, path }, other)
+        }
+        Err(AllocError) => Err(Stop::Memory),
+    }
 }
 
 // Refuses a key file that is one of the others.
