@@ -4,3 +4,4 @@ pub mod Agreed
 pub mod Paths
 pub mod Listed
 pub mod Said
+pub mod Opened

@@ -1,5 +1,5 @@
 -- A check against a source.
-use Rattle.std.proofs.Common.{◌≡◌, ◌⊎◌, ℕ, List, [], Option, IfSome, Result, Ok, Err}
+use Rattle.std.proofs.Common.{◌≡◌, ℕ, List, [], Option, IfSome, Result, Ok, Err}
 use Rattle.std.proofs.Common.{inl, inr, subst}
 use Rattle.std.specs.Prelude.{IsTrue, IfOk}
 use Rattle.folder_checks.specs.declared.report.Report.{Report}

@@ -1,12 +1,13 @@
 -- A check against a source, and then what is said.
-use Rattle.std.proofs.Common.{◌≡◌, ℕ, List, Option, None, Some, IfSome, inl, inr}
-use Rattle.std.proofs.Common.{sym, ◌∙◌, arith}
+use Rattle.std.proofs.Common.{◌≡◌, ℕ, Bool, true, false, List, Option, None, Some, IfSome}
+use Rattle.std.proofs.Common.{inl, inr, sym, ◌∙◌, arith}
 use Rattle.folder_checks.specs.declared.report.Report.{Report}
 use Rattle.known_bags.specs.declared.known_bag.KnownBag.{KnownBag}
 use Rattle.outcomes.specs.Outcomes.{Outcome}
 use Rattle.registered_checks.specs.Held.{Given, held_of}
-use Rattle.registered_checks.specs.Checks.{ComparesFor, ComparesOn, Ends, IsSaid, EndsSaid}
+use Rattle.registered_checks.specs.Checks.{ComparesFor, ComparesOn, Ends, IsSaid}
 use Rattle.registered_checks.specs.Lists.{AnswersTo}
+use Rattle.registered_checks.specs.Files.{IsSaidOn, EndsOn}
 use Rattle.registered_checks.proofs.Compared.{reported_on}
 
 -- ---- what ends so also ends otherwise
@@ -39,20 +40,38 @@ module _ (P Q : Outcome → List ℕ → Type 0)
 
 -- ---- saying
 
--- a check ended, and what was to be said then was said
-pub ends_said : (old new said_before said_after : Option (List ℕ)) (before after : ℕ)
-    (alone status : ℕ) (text : List ℕ)
-    → IsSaid said_before said_after before after alone status text
-    → (outcome : Outcome) (words : List ℕ) → Ends old new alone text outcome words
-    → EndsSaid old new said_before said_after before after status outcome words
-ends_said old new said_before said_after before after alone status text said outcome words ends = (
-  ends.0.1,
-  rw (← ends.0.0) (rw (← ends.1) said),
-)
+-- a check ended, without a failure of the output, and what was to be said then was said
+pub ends_on : (versions : Bool) (old mid new : Option (List ℕ)) (before middle after : ℕ)
+    (other_old other_new : Option (List ℕ)) (other_before other_after : ℕ) (alone status : ℕ)
+    (text : List ℕ) → middle ≡ before
+    → IsSaidOn versions mid new middle after other_old other_new other_before other_after alone
+    status text
+    → (outcome : Outcome) (words : List ℕ) → Ends old mid alone text outcome words
+    → EndsOn versions old new before after other_old other_new other_before other_after status
+    outcome words
+ends_on versions old mid new before middle after other_old other_new other_before other_after
+    alone status text same said outcome words ends = (
+      mid,
+      ends.0.1,
+      rw (← same, ← ends.0.0, ← ends.1) said,
+    )
 
 -- the status 0 is that of the check
-pub zero_alone : (old new : Option (List ℕ)) (before after : ℕ) (alone status : ℕ)
+zero_alone : (old new : Option (List ℕ)) (before after : ℕ) (alone status : ℕ)
     (text : List ℕ) → IsSaid old new before after alone status text → status ≡ 0 → alone ≡ 0
 zero_alone old new before after alone status text (inl said) zero = sym said.0 ∙ zero
 zero_alone old new before after alone status text (inr said) zero =
-    absurd (omega (arith, said.0, zero))
+    absurd (omega (arith, said.1, zero))
+
+pub zero_on : (versions : Bool) (old new : Option (List ℕ)) (before after : ℕ)
+    (other_old other_new : Option (List ℕ)) (other_before other_after : ℕ) (alone status : ℕ)
+    (text : List ℕ)
+    → IsSaidOn versions old new before after other_old other_new other_before other_after alone
+    status text
+    → status ≡ 0 → alone ≡ 0
+zero_on true old new before after other_old other_new other_before other_after alone status text
+    said =
+    zero_alone old new before after alone status text said.0
+zero_on false old new before after other_old other_new other_before other_after alone status text
+    said =
+    zero_alone other_old other_new other_before other_after alone status text said.0

@@ -1,5 +1,5 @@
 -- What a check of folders against known bags comes to.
-use Rattle.std.specs.Prelude.{◌≡◌, ◌⊎◌, ℕ, if◌then◌else◌, List, [], ◌++◌, take, Option}
+use Rattle.std.specs.Prelude.{◌≡◌, ◌≢◌, ◌⊎◌, ℕ, if◌then◌else◌, List, [], ◌++◌, take, Option}
 use Rattle.std.specs.Prelude.{Bool, ◌&&◌, is_some}
 use Rattle.std.specs.Io.KnownBytes.{Appends}
 use Rattle.std.specs.List.{list_all}
@@ -50,25 +50,18 @@ ComparesFirst report gives place paths P =
 abbrev pub Ends : Option (List ℕ) → Option (List ℕ) → ℕ → List ℕ → Outcome → List ℕ → Type 0
 Ends old new status said outcome words = Writes old new status outcome × (said ≡ words)
 
--- a writer took all these words, and the status is the one before; or it took a part of them, and
--- failed, once, and the status is 1
+-- a writer took all these words, and the status is the one before; or there are some, it took a
+-- part of them, and failed, once, and the status is 1
 abbrev pub IsSaid : (old new : Option (List ℕ)) → (before after : ℕ) → (alone status : ℕ)
     → (words : List ℕ) → Type 0
 IsSaid old new before after alone status words =
     ((status ≡ alone) × (after ≡ before) × Appends old new words)
-    ⊎ ((status ≡ 1) × (after ≡ one_more before) × ((n : ℕ) × Appends old new (take n words)))
+    ⊎ ((words ≢ []) × (status ≡ 1) × (after ≡ one_more before)
+    × ((n : ℕ) × Appends old new (take n words)))
 
 -- a writer took nothing, and didn't fail
 abbrev pub IsQuiet : (old new : Option (List ℕ)) → (before after : ℕ) → Type 0
 IsQuiet old new before after = (new ≡ old) × (after ≡ before)
-
--- a writer took the whole text of the outcome, and these words were said to another, after the
--- outcome's status
-abbrev pub EndsSaid : (old new said_before said_after : Option (List ℕ)) → (before after : ℕ)
-    → (status : ℕ) → Outcome → List ℕ → Type 0
-EndsSaid old new said_before said_after before after status outcome words =
-    Appends old new outcome.text
-    × IsSaid said_before said_after before after outcome.status status words
 
 -- ---- the status 0
 

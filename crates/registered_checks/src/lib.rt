@@ -12,6 +12,7 @@
 mod command;
 mod comparison_lines;
 mod equality;
+mod file_checks;
 mod held_bag;
 mod known_checks;
 mod list_checks;
@@ -23,8 +24,9 @@ mod source_checks;
 pub use command::check_registered;
 pub use comparison_lines::comparison_text;
 pub use equality::are_equal;
+pub use file_checks::check_registered_on;
 pub use held_bag::HeldBag;
 pub use known_checks::{Checked, check_known_on};
 pub use list_checks::check_list_on;
-pub use said_checks::{Says, check_and_say_on, say_on};
+pub use said_checks::{Says, say_on};
 pub use source_checks::check_source_on;

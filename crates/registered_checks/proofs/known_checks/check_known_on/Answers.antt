@@ -28,6 +28,7 @@ pub returns-clause-zero : goal.returns-clause-zero
 returns-clause-zero g c =
     λ zero. agreed c.args.report (g.F.Folders.fails_at c.args.folders)
     (map (λ path. path.now) c.args.paths.now) c.args.known.now
-    (g.W.CountedWrite.contents c.args.output.now) (g.W.CountedWrite.contents c.answer_or_memory.new.output)
+    (g.W.CountedWrite.contents c.args.output.now)
+    (g.W.CountedWrite.contents c.answer_or_memory.new.output)
     c.in_ok-answer.answer.status (string_bytes c.in_ok-answer.answer.text)
     (g.F.Folders.gives c.args.folders) (returns-clause-ok g c) zero
