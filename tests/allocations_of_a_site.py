@@ -130,18 +130,6 @@ def why_wrong_lines(status, lines, has_failed):
     return f"lines that are lost: {lost}" if len(lost) > 2 and not stopped else None
 
 
-# A known defect, to be mended: where lines of a batch are written at once, and memory runs out while
-# a later one is put together for the log, the log has that line without one of its characters. It
-# has its place in drafts/README.md. A run has one such line at most, since one allocation fails.
-MOST_LACKING = 1
-
-
-def lacks_a_character(said, lines):
-    """Whether it is one of the lines but for one character."""
-    found = (it for it in lines if len(it) == len(said) + 1)
-    return any(it[:at] + it[at + 1 :] == said for it in found for at in range(len(it)))
-
-
 class Site:
     """The site, and those that send to it."""
 
@@ -201,7 +189,6 @@ class Site:
     def why_wrong_log(self, lines):
         """What is wrong with the log: lines may be left out of it."""
         text = self.log.read_text() if self.log.exists() else ""
-        self.lacking = 0
         if text and not text.endswith("\n"):
             return "the log ends within a line"
         for line in text.splitlines():
@@ -212,11 +199,7 @@ class Site:
                 return f"a request in the log that nobody has sent: {line}"
             known = " ".join(said.split()[:3]) if said.startswith("refused") else said
             if known not in lines and not said.startswith(("serves ", "unread 1 27 ", "why: ")):
-                if not lacks_a_character(known, lines):
-                    return f"a line of the log: {line}"
-                self.lacking += 1
-        if self.lacking > MOST_LACKING:
-            return f"{self.lacking} lines of the log lack a character"
+                return f"a line of the log: {line}"
         return None
 
     def own(self):
