@@ -60,6 +60,13 @@ class Spoilt:
         head, dark, tail = style.text.rpartition("@media")
         style.text = head + dark + re.sub(classes_of, made, tail)
 
+    def exchange_shades(self):
+        """The colours that are made are as light on a light sheet as they have to be on a dark one,
+        and the other way round."""
+        style = self.drawn.find(f"{SVG}style")
+        other = lambda it: f",{int(it[1]) + (24 if int(it[1]) < 60 else -24)}%)"
+        style.text = re.sub(r",(\d+)%\)", other, style.text)
+
     def marks(self, shape):
         """The marks of a shape, the first ones first; that of the legend comes last."""
         return [it for it in self.drawn if shape in (it.get("d") or "")]
@@ -178,6 +185,7 @@ MISTAKES = {
     "the sites named in a row": lambda it: [put(one, "y", 30) for one in it.again()],
     "two bags of one colour": lambda it: it.recolour("2", "1"),
     "no colour on a dark sheet": lambda it: it.recolour("2", ""),
+    "shades of a light sheet on a dark one": lambda it: it.exchange_shades(),
     "a broken one's words exchanged": lambda it: exchanged(
         *[one for one in it.drawn.iter(f"{SVG}text") if one.get("dy") == "4" and not {"g", "n"} &
           set(classes(one))][:2], "y"),
