@@ -11,3 +11,4 @@ pub mod ValidManifests
 pub mod ValidNames
 pub mod NamedManifests
 pub mod NamedLaws
+pub mod CompleteLaws

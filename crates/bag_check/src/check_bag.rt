@@ -3,7 +3,9 @@ ghost use Rattle.sha2.specs.Sha512.{sha512};
 ghost use Rattle.fed_types.specs.Faults.{IsOrFault};
 ghost use Rattle.bag_check.specs.Manifests.{text_at, sha512_manifest};
 ghost use Rattle.bag_check.specs.Check.{check_of, identity_of};
+ghost use Rattle.bag_check.specs.Complete.{complete_of};
 ghost use Rattle.bag_check.specs.Valid.{IsValid};
+ghost use Rattle.bag_check.specs.inner.Despite.{despite};
 
 use crate::entries::fault_of_listings;
 use crate::fault::BagFault;
@@ -29,6 +31,27 @@ pub fn check(alloc: Global, facts: &Facts) -> Result<BagId, BagFault>
     ensures exact { IsOrFault BagFault.Memory result (check_of facts.now) }
 {
     identity_or_fault(alloc, facts)
+}
+
+/// The same, whatever the digests are: the identity of the complete bag that these are the facts of
+/// (RFC 8493, 3), or the first fault that holds and isn't `WrongDigest`.
+pub fn check_complete(alloc: Global, facts: &Facts) -> Result<BagId, BagFault>
+    ensures { IsOrFault BagFault.Memory result (complete_of facts.now) }
+{
+    match identity_or_fault(alloc, facts) {
+        Ok(bag) => Ok(bag),
+        Err(fault) => identity_despite(alloc, facts, fault),
+    }
+}
+
+/// What is answered where digests don't count, and a check refuses the bag for this fault.
+fn identity_despite(alloc: Global, facts: &Facts, fault: BagFault) -> Result<BagId, BagFault>
+    ensures { IsOrFault BagFault.Memory result (despite facts.now fault) }
+{
+    match fault {
+        BagFault::WrongDigest => Ok(identity(&FilesByPath::new(alloc, facts.files())?)),
+        fault => Err(fault),
+    }
 }
 
 fn identity_or_fault(alloc: Global, facts: &Facts) -> Result<BagId, BagFault>

@@ -4,7 +4,9 @@ ghost use Rattle.std.specs.Prelude.{◌≡◌, ◌↔◌, Ok, false};
 ghost use Rattle.bag_tree.specs.Tree.{Files};
 ghost use Rattle.bag_tree.specs.Facts.{TreeFacts, facts_of_tree};
 ghost use Rattle.bag_check.specs.declared.fault.BagFault.{BagFault};
+ghost use Rattle.bag_check.specs.declared.fault.BagFault.TheVariants.{WrongDigest};
 ghost use Rattle.bag_check.specs.Check.{holds, check_of, identity_of};
+ghost use Rattle.bag_check.specs.Complete.{complete_of};
 ghost use Rattle.bag_check.specs.Named.{only_named, named_facts_of};
 ghost use Rattle.bag_check.specs.Valid.{IsValid};
 
@@ -15,6 +17,14 @@ pub fn valid_law()
         → IsValid facts ↔ ((fault : BagFault) → holds fault facts ≡ false) }
     ensures checked { (facts : TreeFacts)
         → IsValid facts ↔ (check_of facts ≡ Ok (identity_of facts)) }
+{}
+
+/// A tree is a valid bag exactly when it is complete and no digest is wrong. Then both checks answer
+/// its identity.
+pub fn complete_law()
+    ensures { (facts : TreeFacts)
+        → IsValid facts
+        ↔ ((complete_of facts ≡ Ok (identity_of facts)) × (holds WrongDigest facts ≡ false)) }
 {}
 
 /// A check that knows only the digests that a tree's manifests ask for, by their names, answers

@@ -21,11 +21,11 @@ mod named;
 mod read_manifests;
 mod tag_files;
 
-pub use check_bag::check;
+pub use check_bag::{check, check_complete};
 pub use entries::{is_astray, is_wrong};
 pub use fault::BagFault;
 pub use files_by_path::FilesByPath;
-pub use law::{named_law, valid_law};
+pub use law::{complete_law, named_law, valid_law};
 pub use manifests::Kind;
 pub use named::named_by;
 pub use tag_files::{is_supported_encoding, is_supported_version, is_unknown};

@@ -7,6 +7,7 @@ use Rattle.std.proofs.lemmas.List.Folds.{flat_map-map}
 use Rattle.bag_tree.specs.Facts.{FileFact, TreeFacts}
 use Rattle.bag_check.specs.declared.fault.BagFault.{BagFault}
 use Rattle.bag_check.specs.Check.{all_faults}
+use Rattle.bag_check.specs.Complete.{gaps}
 use Rattle.bag_explain.specs.declared.entries.ListingFault.{ListingFault}
 use Rattle.bag_explain.specs.declared.entries.ListingFault.TheVariants.{Malformed, OfEntry}
 use Rattle.bag_explain.specs.declared.entries.ListingFault.TheVariants.{Repeated, Unlisted}
@@ -14,11 +15,13 @@ use Rattle.bag_explain.specs.declared.entry_fault.EntryFault.TheVariants.{Astray
 use Rattle.bag_explain.specs.Listings.{NumberedListing, listings_of}
 use Rattle.bag_explain.specs.Places.{Place, places_of}
 use Rattle.bag_explain.specs.Findings.{Finding, findings_by, findings_of, printed_fault}
-use Rattle.bag_explain.specs.Findings.{printed_places, explanation_of}
+use Rattle.bag_explain.specs.Findings.{printed_places, explanation_of, gap_findings_of}
+use Rattle.bag_explain.specs.Findings.{gap_explanation_of}
 use Rattle.bag_explain.specs.inner.Stages.{fault_of, places_in, printed_in, tree_of}
 use Rattle.bag_explain.specs.inner.Stages.{printed_faults}
 use Rattle.bag_explain.proofs.FaultLines.{after_both}
-use Rattle.bag_explain.specs.inner.Stages.{first_faults, listing_faults, printed_listings}
+use Rattle.bag_explain.specs.inner.Stages.{first_faults, listing_faults, listing_gaps}
+use Rattle.bag_explain.specs.inner.Stages.{printed_listed, printed_listings, printed_gaps}
 
 flat_map-flat_map : {X Y Z : Type 0} (g : Y → List Z) (f : X → List Y) (xs : List X)
     → flat_map g (flat_map f xs) ≡ flat_map (λ x. flat_map g (f x)) xs
@@ -42,12 +45,12 @@ by_fault facts fault =
     flat_map-map printed (λ (place : Place). record { fault = fault; place = place })
     (places_of fault facts)
 
-by_faults : (facts : TreeFacts) → explanation_of facts ≡ printed_faults facts all_faults
-unfolding explanation_of findings_of
-by_faults facts =
-    flat_map-flat_map printed (findings_by facts) all_faults
+by_faults : (facts : TreeFacts) (faults : List BagFault)
+    → flat_map printed (flat_map (findings_by facts) faults) ≡ printed_faults facts faults
+by_faults facts faults =
+    flat_map-flat_map printed (findings_by facts) faults
     ∙ flat_map-same (λ (fault : BagFault). flat_map printed (findings_by facts fault))
-    (λ (fault : BagFault). printed_places fault (places_of fault facts)) (by_fault facts) all_faults
+    (λ (fault : BagFault). printed_places fault (places_of fault facts)) (by_fault facts) faults
 
 all_places : (facts : TreeFacts) (fault : ListingFault)
     → places_of (fault_of fault) facts
@@ -69,34 +72,75 @@ by_listings facts fault =
     ∙ flat_map-flat_map (printed_fault (fault_of fault)) (places_in fault facts.files)
     (listings_of facts.files)
 
-explanation-is : (facts : TreeFacts) → explanation_of facts
-    ≡ printed_faults facts first_faults ++ printed_listings facts.files (listings_of facts.files)
-explanation-is facts =
+-- the lines of those for which no manifest is read, and then of these
+parts-are : (facts : TreeFacts) (listed : List ListingFault)
+    → printed_faults facts (first_faults ++ map fault_of listed)
+    ≡ printed_faults facts first_faults
+    ++ printed_listed listed facts.files (listings_of facts.files)
+parts-are facts listed =
     let each = λ (fault : BagFault). printed_places fault (places_of fault facts) in
-    by_faults facts
-    ∙ (flat_map-append each first_faults (map fault_of listing_faults)
+    flat_map-append each first_faults (map fault_of listed)
     ∙ ap (λ t. printed_faults facts first_faults ++ t)
-    (flat_map-map each fault_of listing_faults
+    (flat_map-map each fault_of listed
     ∙ flat_map-same (λ (fault : ListingFault). each (fault_of fault))
     (λ (fault : ListingFault). printed_in fault facts.files (listings_of facts.files))
-    (by_listings facts) listing_faults))
+    (by_listings facts) listed)
 
-pub explained : (facts : TreeFacts) (files : List FileFact) (payload : Bool)
-    (found : List NumberedListing) (empty first all : List ℕ)
-    → files ≡ facts.files → payload ≡ facts.payload → found ≡ listings_of files → empty ≡ []
-    → first ≡ empty ++ printed_faults (tree_of files payload) first_faults
-    → all ≡ first ++ printed_listings files found → all ≡ explanation_of facts
-explained facts files payload found empty first all same_files same_payload listed none tags rest =
+-- what is written for a tree of these parts
+record Written (facts : TreeFacts) (files : List FileFact) (payload : Bool)
+    (found : List NumberedListing) (empty first : List ℕ) : Type 0 where
+  pub same_files : files ≡ facts.files
+  pub same_payload : payload ≡ facts.payload
+  pub listed : found ≡ listings_of files
+  pub none : empty ≡ []
+  pub tags : first ≡ empty ++ printed_faults (tree_of files payload) first_faults
+
+written-is : (facts : TreeFacts) (files : List FileFact) (payload : Bool)
+    (found : List NumberedListing) (empty first : List ℕ) (listed : List ListingFault)
+    (all : List ℕ) → Written facts files payload found empty first
+    → all ≡ first ++ printed_listed listed files found
+    → all ≡ printed_faults facts (first_faults ++ map fault_of listed)
+written-is facts files payload found empty first listed all w rest =
+    let lines = printed_listed listed in
     rest
-    ∙ (ap (λ t. t ++ printed_listings files found)
-    (tags ∙ ap (λ t. t ++ printed_faults (tree_of files payload) first_faults) none)
-    ∙ (ap (λ ls. printed_faults (tree_of files payload) first_faults ++ printed_listings files ls)
-    listed
+    ∙ (ap (λ t. t ++ lines files found)
+    (w.tags ∙ ap (λ t. t ++ printed_faults (tree_of files payload) first_faults) w.none)
+    ∙ (ap (λ ls. printed_faults (tree_of files payload) first_faults ++ lines files ls) w.listed
     ∙ (ap (λ fs. printed_faults (tree_of fs payload) first_faults
-    ++ printed_listings fs (listings_of fs)) same_files
+    ++ lines fs (listings_of fs)) w.same_files
     ∙ (ap (λ p. printed_faults (tree_of facts.files p) first_faults
-    ++ printed_listings facts.files (listings_of facts.files)) same_payload
-    ∙ sym (explanation-is facts)))))
+    ++ lines facts.files (listings_of facts.files)) w.same_payload
+    ∙ sym (parts-are facts listed)))))
+
+module _ (facts : TreeFacts) (files : List FileFact) (payload : Bool)
+    (found : List NumberedListing) (empty first all : List ℕ) where
+  pub explained : files ≡ facts.files → payload ≡ facts.payload → found ≡ listings_of files
+      → empty ≡ [] → first ≡ empty ++ printed_faults (tree_of files payload) first_faults
+      → all ≡ first ++ printed_listings files found → all ≡ explanation_of facts
+  unfolding explanation_of findings_of
+  explained same_files same_payload listed none tags rest =
+      written-is facts files payload found empty first listing_faults all (record {
+        same_files = same_files;
+        same_payload = same_payload;
+        listed = listed;
+        none = none;
+        tags = tags;
+      }) rest
+      ∙ sym (by_faults facts all_faults)
+
+  pub gaps_explained : files ≡ facts.files → payload ≡ facts.payload → found ≡ listings_of files
+      → empty ≡ [] → first ≡ empty ++ printed_faults (tree_of files payload) first_faults
+      → all ≡ first ++ printed_gaps files found → all ≡ gap_explanation_of facts
+  unfolding gap_explanation_of gap_findings_of
+  gaps_explained same_files same_payload listed none tags rest =
+      written-is facts files payload found empty first listing_gaps all (record {
+        same_files = same_files;
+        same_payload = same_payload;
+        listed = listed;
+        none = none;
+        tags = tags;
+      }) rest
+      ∙ sym (by_faults facts gaps)
 
 -- one fault more is written
 pub fault_more : {before after : List ℕ} (facts : TreeFacts) (faults : List BagFault)

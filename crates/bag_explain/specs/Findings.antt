@@ -6,6 +6,7 @@ use Rattle.bag_text.specs.Algorithms.{algorithm_name}
 use Rattle.bag_tree.specs.Facts.{TreeFacts}
 use Rattle.bag_check.specs.declared.fault.BagFault.{BagFault}
 use Rattle.bag_check.specs.Check.{all_faults}
+use Rattle.bag_check.specs.Complete.{gaps}
 use Rattle.bag_check.specs.Fault.{number_of}
 use Rattle.words.specs.Escapes.{escaped_text}
 use Rattle.bag_explain.specs.Places.{Place, at_file, at_line, at_entry, at_digest, at_unlisted}
@@ -24,6 +25,10 @@ findings_by facts fault =
 -- all that is wrong, in the order of the faults' numbers
 unfoldable pub findings_of : TreeFacts → List Finding
 findings_of facts = flat_map (findings_by facts) all_faults
+
+-- what keeps the tree from being a complete bag: all of that but wrong digests
+unfoldable pub gap_findings_of : TreeFacts → List Finding
+gap_findings_of facts = flat_map (findings_by facts) gaps
 
 -- the list has an element
 abbrev pub has_some : {X : Type 0} → List X → Bool
@@ -62,3 +67,8 @@ printed_places fault places = flat_map (printed_fault fault) places
 unfoldable pub explanation_of : TreeFacts → List ℕ
 explanation_of facts =
     flat_map (λ finding. printed_fault finding.fault finding.place) (findings_of facts)
+
+-- the same for what keeps it from being complete
+unfoldable pub gap_explanation_of : TreeFacts → List ℕ
+gap_explanation_of facts =
+    flat_map (λ finding. printed_fault finding.fault finding.place) (gap_findings_of facts)

@@ -12,6 +12,7 @@ ghost use Rattle.bag_explain.specs.Places.{repeated_after};
 ghost use Rattle.bag_explain.specs.Findings.{printed_places};
 ghost use Rattle.bag_explain.specs.declared.entries.ListingFault.TheVariants.{OfEntry};
 ghost use Rattle.bag_explain.specs.inner.Stages.{fault_of, places_in, printed_in, printed_listings};
+ghost use Rattle.bag_explain.specs.inner.Stages.{printed_gaps};
 
 use crate::entry_fault::{EntryFault, push_if_faulty, push_path_if};
 use crate::numbered_listing::{NumberedEntry, NumberedListing};
@@ -43,6 +44,25 @@ pub(crate) fn push_listings(
 ) -> Result<(), AllocError>
     ensures { Pushes result text.old text.new (printed_listings files.now listings.now) }
 {
+    push_gaps(alloc, text, files, listings)?;
+    push_fault(
+        alloc,
+        text,
+        ListingFault::OfEntry(EntryFault::Wrong),
+        files,
+        listings,
+    )
+}
+
+/// Appends the lines of the same faults, but for wrong digests.
+pub(crate) fn push_gaps(
+    alloc: Global,
+    text: &mut String,
+    files: &FilesByPath<'_>,
+    listings: &[NumberedListing<'_>],
+) -> Result<(), AllocError>
+    ensures { Pushes result text.old text.new (printed_gaps files.now listings.now) }
+{
     push_fault(alloc, text, ListingFault::Malformed, files, listings)?;
     push_fault(
         alloc,
@@ -59,14 +79,7 @@ pub(crate) fn push_listings(
         files,
         listings,
     )?;
-    push_fault(alloc, text, ListingFault::Unlisted, files, listings)?;
-    push_fault(
-        alloc,
-        text,
-        ListingFault::OfEntry(EntryFault::Wrong),
-        files,
-        listings,
-    )
+    push_fault(alloc, text, ListingFault::Unlisted, files, listings)
 }
 
 // Appends the lines of a fault in these manifests.

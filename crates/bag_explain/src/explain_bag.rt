@@ -1,7 +1,7 @@
 ghost use Rattle.std.specs.Prelude.{◌≡◌, IfOk, string_bytes};
-ghost use Rattle.bag_explain.specs.Findings.{explanation_of};
+ghost use Rattle.bag_explain.specs.Findings.{explanation_of, gap_explanation_of};
 
-use crate::entries::push_listings;
+use crate::entries::{push_gaps, push_listings};
 use crate::read_manifests::listings;
 use crate::tag_files::push_tag_files;
 use bag_check::FilesByPath;
@@ -19,5 +19,17 @@ pub fn explain(alloc: Global, facts: &Facts) -> Result<String, AllocError>
     let mut text = String::new(alloc);
     push_tag_files(&mut text, &files, facts.payload_exists())?;
     push_listings(alloc, &mut text, &files, listings.as_slice())?;
+    Ok(text)
+}
+
+/// The same but for wrong digests: all that keeps the tree from being a complete bag.
+pub fn explain_gaps(alloc: Global, facts: &Facts) -> Result<String, AllocError>
+    ensures { IfOk result (λ text. string_bytes text ≡ gap_explanation_of facts.now) }
+{
+    let files = FilesByPath::new(alloc, facts.files())?;
+    let listings = listings(alloc, &files)?;
+    let mut text = String::new(alloc);
+    push_tag_files(&mut text, &files, facts.payload_exists())?;
+    push_gaps(alloc, &mut text, &files, listings.as_slice())?;
     Ok(text)
 }

@@ -2,9 +2,10 @@
 //! holds.
 //!
 //! ```
-//! let lines = explain(alloc, facts)?;
-//! let verdict = verdict_of(alloc, facts);
-//! with_lines(alloc, verdict, lines.as_str())
+//! match question {
+//!     Question::Validity => explain(alloc, facts),
+//!     Question::Completeness => explain_gaps(alloc, facts),
+//! }
 //! ```
 #![tactic(auto)]
 
@@ -17,5 +18,5 @@ mod print;
 mod read_manifests;
 mod tag_files;
 
-pub use explain_bag::explain;
+pub use explain_bag::{explain, explain_gaps};
 pub use law::{all_found_law, findings_law, named_findings_law, numbers_law, places_law};

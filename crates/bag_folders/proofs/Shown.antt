@@ -2,8 +2,9 @@
 use Rattle.std.proofs.Common.{◌≡◌, ℕ, Bool, true, false, not, cond, List, [], ◌∷◌, ◌++◌, map}
 use Rattle.std.proofs.Common.{Option, Some, None, Result, Ok, Err, IsTrue, refl, ap, ◌∙◌}
 use Rattle.std.proofs.Common.{subst, inl, inr}
-use Rattle.std.specs.Prelude.{◌≢◌, codes, IfOk}
+use Rattle.std.specs.Prelude.{◌≢◌, codes, unwrap_or, IfOk}
 use Rattle.std.specs.List.{list_any, find, AllByRecursion}
+use Rattle.sha2.specs.Sha512.{sha512 as sha512_of}
 use Rattle.fed_types.specs.declared.bag_id.BagId.{BagId}
 use Rattle.fed_types.specs.Faults.{IsOrFault}
 use Rattle.bag_text.specs.ListedFile.{ListedFile}
@@ -26,6 +27,7 @@ use Rattle.bag_check.specs.Check.{is_missing, is_unlisted, is_astray, repeats, i
 use Rattle.bag_check.specs.Check.{declaration_in, is_bad_declaration, declares_other}
 use Rattle.bag_check.specs.Check.{is_supported_version, is_supported_encoding, some_manifest}
 use Rattle.bag_check.specs.Check.{holds, first_fault, answer, check_of}
+use Rattle.bag_check.specs.Complete.{gaps, first_gap, complete_of}
 use Rattle.bag_check.specs.Named.{named_of}
 use Rattle.bag_check.proofs.Repeats.{same_any}
 use Rattle.bag_check.proofs.NamedLaws.{fewer, same_file, same_text, same_of_files, same_manifests}
@@ -71,11 +73,18 @@ find_shown p q (fault ∷ faults) (first, others) is =
     go true false e later is = absurd (cc e)
     go false true e later is = absurd (cc e)
 
--- ---- facts without any digest
+-- of tests that agree the first one is found alike
+find_alike : (p q : BagFault → Bool) (faults : List BagFault)
+    → AllByRecursion (λ fault. p fault ≡ q fault) faults → find p faults ≡ find q faults
+find_alike p q [] same = refl
+find_alike p q (fault ∷ faults) (first, others) =
+    rw (first, find_alike p q faults others) refl
 
-module _ (facts : TreeFacts) where
+-- ---- facts with fewer digests
+
+module _ (wanted : Algorithms) (facts : TreeFacts) where
   abbrev files : List FileFact
-  files = fewer no_algorithms facts.files
+  files = fewer wanted facts.files
 
   abbrev bare : TreeFacts
   bare = record { files = files; payload = facts.payload }
@@ -85,22 +94,22 @@ module _ (facts : TreeFacts) where
       → some_manifest p files ≡ some_manifest q facts.files
   any_same p q same =
       ap (λ ms. list_any (λ m. passes (p m) (entries m)) ms)
-      (same_manifests no_algorithms facts.files)
+      (same_manifests wanted facts.files)
       ∙ passes_same p q same (manifests_of facts.files)
 
   declared_same : declaration_in bare ≡ declaration_in facts
-  declared_same = same_text no_algorithms (codes "bagit.txt") facts.files
+  declared_same = same_text wanted (codes "bagit.txt") facts.files
 
   unknown_same : list_any is_unknown files ≡ list_any is_unknown facts.files
   unfolding is_unknown
-  unknown_same = same_of_files no_algorithms is_unknown (λ file. refl) facts.files
+  unknown_same = same_of_files wanted is_unknown (λ file. refl) facts.files
 
   abbrev Same : BagFault → Type 0
   Same fault = holds fault bare ≡ holds fault facts
 
   no_declaration : Same NoDeclaration
   unfolding holds
-  no_declaration = ap not (same_file no_algorithms (codes "bagit.txt") facts.files)
+  no_declaration = ap not (same_file wanted (codes "bagit.txt") facts.files)
 
   bad_declaration : Same BadDeclaration
   unfolding holds
@@ -118,7 +127,7 @@ module _ (facts : TreeFacts) where
 
   fetch : Same HasFetch
   unfolding holds
-  fetch = same_file no_algorithms (codes "fetch.txt") facts.files
+  fetch = same_file wanted (codes "fetch.txt") facts.files
 
   folder : Same NoPayloadFolder
   unfolding holds
@@ -126,7 +135,7 @@ module _ (facts : TreeFacts) where
 
   sha512 : Same NoSha512Manifest
   unfolding holds
-  sha512 = ap not (same_file no_algorithms sha512_manifest facts.files)
+  sha512 = ap not (same_file wanted sha512_manifest facts.files)
 
   unknown : Same UnknownAlgorithm
   unfolding holds
@@ -136,7 +145,7 @@ module _ (facts : TreeFacts) where
   unfolding holds
   malformed =
       ap (list_any (λ manifest. is_malformed (entries manifest)))
-      (same_manifests no_algorithms facts.files)
+      (same_manifests wanted facts.files)
 
   astray : Same UnsafePath
   unfolding holds
@@ -156,7 +165,7 @@ module _ (facts : TreeFacts) where
       any_same (λ manifest entries. list_any (is_missing files) entries)
       (λ manifest entries. list_any (is_missing facts.files) entries)
       (λ m es. same_any (is_missing files) (is_missing facts.files)
-      (λ entry. ap not (same_file no_algorithms entry.path facts.files)) es)
+      (λ entry. ap not (same_file wanted entry.path facts.files)) es)
 
   unlisted : Same UnlistedFile
   unfolding holds
@@ -165,7 +174,7 @@ module _ (facts : TreeFacts) where
       (λ manifest entries. if_payload manifest.kind (list_any (is_unlisted entries) files))
       (λ manifest entries. if_payload manifest.kind (list_any (is_unlisted entries) facts.files))
       (λ m es. ap (if_payload m.kind)
-      (same_of_files no_algorithms (is_unlisted es) (λ file. refl) facts.files))
+      (same_of_files wanted (is_unlisted es) (λ file. refl) facts.files))
 
   -- the faults that show so
   abbrev shown_faults : List BagFault
@@ -174,33 +183,33 @@ module _ (facts : TreeFacts) where
       ∷ NoPayloadFolder ∷ NoSha512Manifest ∷ UnknownAlgorithm ∷ MalformedLine ∷ UnsafePath
       ∷ DuplicateEntry ∷ MissingFile ∷ UnlistedFile ∷ []
 
-  first_same : IsTrue (is_shown (first_fault bare)) → first_fault bare ≡ first_fault facts
-  first_same is =
-      find_shown (λ fault. holds fault bare) (λ fault. holds fault facts) shown_faults (
-        no_declaration,
+  all_same : AllByRecursion (λ fault. holds fault bare ≡ holds fault facts) shown_faults
+  all_same = (
+    no_declaration,
+    (
+      bad_declaration,
+      (
+        version,
         (
-          bad_declaration,
+          encoding,
           (
-            version,
+            fetch,
             (
-              encoding,
+              folder,
               (
-                fetch,
-                (
-                  folder,
-                  (
-                    sha512,
-                    (
-                      unknown,
-                      (malformed, (astray, (twice, (missing, (unlisted, tt))))),
-                    ),
-                  ),
-                ),
+                sha512,
+                (unknown, (malformed, (astray, (twice, (missing, (unlisted, tt)))))),
               ),
             ),
           ),
         ),
-      ) is
+      ),
+    ),
+  )
+
+  first_same : IsTrue (is_shown (first_fault bare)) → first_fault bare ≡ first_fault facts
+  first_same is =
+      find_shown (λ fault. holds fault bare) (λ fault. holds fault facts) shown_faults all_same is
 
   answer_same : (fault : Option BagFault) → IsTrue (is_shown fault)
       → answer bare fault ≡ answer facts fault
@@ -212,6 +221,22 @@ module _ (facts : TreeFacts) where
   unfolding check_of
   check_same is = answer_same (first_fault bare) is ∙ ap (answer facts) (first_same is)
 
+  -- ---- completeness
+
+  gap_same : first_gap bare ≡ first_gap facts
+  gap_same =
+      find_alike (λ fault. holds fault bare) (λ fault. holds fault facts) gaps all_same
+
+  gap_answer_same : (fault : Option BagFault) → answer bare fault ≡ answer facts fault
+  gap_answer_same None =
+      ap (λ text. Ok (record { 0 = sha512_of (unwrap_or text []) }))
+      (same_text wanted sha512_manifest facts.files)
+  gap_answer_same (Some fault) = refl
+
+  complete_same : complete_of bare ≡ complete_of facts
+  unfolding complete_of
+  complete_same = gap_answer_same (first_gap bare) ∙ ap (answer facts) gap_same
+
 -- ---- files
 
 bare_files : (files : List File)
@@ -220,7 +245,8 @@ bare_files [] = refl
 bare_files (file ∷ files) = ap (λ rest. fact_by no_algorithms file ∷ rest) (bare_files files)
 
 is_bare : (files : List File) (payload : Bool)
-    → facts_by no_algorithms files payload ≡ bare (facts_by all_algorithms files payload)
+    → facts_by no_algorithms files payload
+    ≡ bare no_algorithms (facts_by all_algorithms files payload)
 is_bare files payload = ap (λ fs. record { files = fs; payload = payload }) (bare_files files)
 
 pub check_shown : (files : List File) (payload : Bool)
@@ -229,7 +255,7 @@ pub check_shown : (files : List File) (payload : Bool)
     ≡ check_of (facts_by all_algorithms files payload)
 check_shown files payload is =
     ap check_of (is_bare files payload)
-    ∙ check_same (facts_by all_algorithms files payload)
+    ∙ check_same no_algorithms (facts_by all_algorithms files payload)
     (subst (λ f. IsTrue (is_shown (first_fault f))) (is_bare files payload) is)
 
 -- ---- digests that manifests name
@@ -239,6 +265,13 @@ named_files : (wanted : Algorithms) (files : List File)
 named_files wanted [] = refl
 named_files wanted (file ∷ files) =
     ap (λ rest. fact_by wanted file ∷ rest) (named_files wanted files)
+
+pub complete_by : (wanted : Algorithms) (files : List File) (payload : Bool)
+    → complete_of (facts_by wanted files payload)
+    ≡ complete_of (facts_by all_algorithms files payload)
+complete_by wanted files payload =
+    ap (λ fs. complete_of (record { files = fs; payload = payload })) (named_files wanted files)
+    ∙ complete_same wanted (facts_by all_algorithms files payload)
 
 paths_same : (files : List File)
     → map (λ file. file.path) files

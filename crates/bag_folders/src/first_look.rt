@@ -9,7 +9,7 @@ use crate::failure::Failure;
 use crate::folder_listing::{FolderListing, ListedFile};
 use crate::hash_listed::hash_listed;
 use crate::open_bag::OpenBag;
-use crate::watcher::Silent;
+use crate::watcher::{Silent, Watcher};
 use bag_check::{BagFault, check, named_by};
 use bag_digest::{Algorithms, Digests};
 use bag_tree::{Facts, FileFacts, LONGEST_TEXT, TreeFault, is_read_text};
@@ -26,7 +26,7 @@ pub(crate) fn faulty_facts<R: Files + AllocGlobal + Clone + Drop>(
     ensures needed { IfOk result (λ found. IfSome found NeedsNoDigest) }
     ensures faults { IfErr result (λ failure. IsWalkFault failure.fault) }
 {
-    let facts = bare_facts(alloc, bag, listing)?;
+    let facts = bare_facts(alloc, bag, listing, &mut Silent)?;
     if shows_fault(alloc, &facts)? {
         Ok(Some(facts))
     } else {
@@ -56,11 +56,13 @@ fn shows(fault: BagFault) -> Result<bool, AllocError>
     }
 }
 
-/// What is known of the files that were listed, without any digest.
-fn bare_facts<R: Files + AllocGlobal + Clone + Drop>(
+/// What is known of the files that were listed, without any digest, while the watcher sees for how
+/// many of them it is.
+pub(crate) fn bare_facts<R: Files + AllocGlobal + Clone + Drop, W: Watcher>(
     alloc: Global,
     bag: &mut OpenBag<'_, R>,
     listing: &FolderListing,
+    watcher: &mut W,
 ) -> Result<Facts, Failure>
     ensures digests { IfOk result HasNoDigests }
     ensures faults { IfErr result (λ failure. IsWalkFault failure.fault) }
@@ -68,6 +70,7 @@ fn bare_facts<R: Files + AllocGlobal + Clone + Drop>(
     let mut files = Vec::with_capacity(alloc, listing.files.len())?;
     for file in listing.files.as_slice() {
         files.push(bare_fact(alloc, bag, file)?)?;
+        watcher.file_done();
     }
     Ok(Facts::new(files, listing.payload))
 }

@@ -1,9 +1,11 @@
 //! A law of bags whose digests aren't needed, as the contract of a function that does nothing.
 
 ghost use Rattle.std.specs.Prelude.{◌≡◌, Bool, List, map, IsTrue};
+ghost use Rattle.bag_digest.specs.declared.algorithms.Algorithms.{Algorithms};
 ghost use Rattle.bag_digest.specs.Algorithms.{all_algorithms, no_algorithms};
 ghost use Rattle.bag_tree.specs.Tree.{File};
 ghost use Rattle.bag_check.specs.Check.{check_of, first_fault};
+ghost use Rattle.bag_check.specs.Complete.{complete_of};
 ghost use Rattle.bag_check.specs.Named.{named_of};
 ghost use Rattle.bag_folders.specs.Disk.{facts_by, is_shown};
 
@@ -17,4 +19,8 @@ pub fn needed_law()
         → IsTrue (is_shown (first_fault (facts_by no_algorithms files payload)))
         → check_of (facts_by no_algorithms files payload)
         ≡ check_of (facts_by all_algorithms files payload) }
+    // Whether a bag is complete doesn't depend on digests.
+    ensures complete { (known : Algorithms) (files : List File) (payload : Bool)
+        → complete_of (facts_by known files payload)
+        ≡ complete_of (facts_by all_algorithms files payload) }
 {}

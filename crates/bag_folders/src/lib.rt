@@ -9,6 +9,7 @@
 //! ```
 #![tactic(auto)]
 
+mod bare_folders;
 mod disk_folders;
 mod failure;
 mod first_look;
@@ -32,6 +33,7 @@ mod walk;
 mod watched_file;
 mod watcher;
 
+pub use bare_folders::BareFolders;
 pub use disk_folders::DiskFolders;
 pub use folders::Folders;
 pub use hash_state::Hashing;

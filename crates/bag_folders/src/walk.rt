@@ -1,10 +1,10 @@
 ghost use Rattle.std.specs.Prelude.{◌≡◌, IfOk, IfErr, map, string_bytes};
 ghost use Rattle.bag_check.specs.Named.{named_of};
-ghost use Rattle.bag_folders.specs.Disk.{HasNamedDigests, HasNeededDigests};
+ghost use Rattle.bag_folders.specs.Disk.{HasNamedDigests, HasNeededDigests, HasNoDigests};
 ghost use Rattle.bag_folders.specs.Folders.{IsWalkFault};
 
 use crate::failure::Failure;
-use crate::first_look::faulty_facts;
+use crate::first_look::{bare_facts, faulty_facts};
 use crate::folder_listing::{FolderListing, ListedFile, list_bag, too_many, unlisted};
 use crate::hash_listed::hash_listed;
 use crate::open_bag::OpenBag;
@@ -63,6 +63,22 @@ pub(crate) fn read_watched<R: Files + AllocGlobal + Clone + Drop, W: Watcher>(
     let mut bag = open_bag(rt, folder)?;
     let listing = list_bag(rt.alloc(), &bag)?;
     read_listed(rt.alloc(), &mut bag, listing, reading, watcher)
+}
+
+/// The facts of the tree in this folder, of which only the texts that describe the bag are read: no
+/// file has a digest. The watcher sees for how many files that is done.
+pub(crate) fn read_bare<R: Files + AllocGlobal + Clone + Drop, W: Watcher>(
+    rt: &R,
+    folder: &str,
+    watcher: &mut W,
+) -> Result<Facts, Failure>
+    ensures digests { IfOk result HasNoDigests }
+    ensures faults { IfErr result (λ failure. IsWalkFault failure.fault) }
+{
+    let mut bag = open_bag(rt, folder)?;
+    let listing = list_bag(rt.alloc(), &bag)?;
+    watcher.listed(listing.files.len() as u64, listing.bytes());
+    bare_facts(rt.alloc(), &mut bag, &listing, watcher)
 }
 
 /// Opens the folder of this path.

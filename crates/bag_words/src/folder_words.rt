@@ -10,14 +10,15 @@ use crate::near_names::NearNames;
 use crate::oxum::push_oxum;
 use crate::place_words::push_place;
 use crate::rfc::push_rfc;
+use crate::spoken_folders::Wanted;
 use crate::tag_files::push_tag_files;
 use crate::twins::push_twins;
 use crate::unread::{UnreadPaths, push_unread_places};
 use bag_check::FilesByPath;
-use bag_explain::explain;
+use bag_explain::{explain, explain_gaps};
 use bag_tree::{Facts, TreeFault};
 use code_words::{invalid, unread};
-use std::alloc::AllocError;
+use std::alloc::{AllocError, Global};
 
 /// Appends the words on a folder that was read, each line ended by LF: each place where a fault
 /// holds, below what the fault says; warnings; and counts.
@@ -26,9 +27,19 @@ pub(crate) fn push_read_words(
     text: &mut String,
     folder: &str,
     facts: &Facts,
+    wanted: Wanted,
 ) -> Result<(), AllocError> {
     let unread = UnreadPaths::of(rt.alloc(), &[])?;
-    push_facts_words(rt, text, folder, facts, &unread, Counts::default())
+    let lines = lines_of(rt.alloc(), facts, wanted)?;
+    push_facts_words(
+        rt,
+        text,
+        folder,
+        facts,
+        lines.as_str(),
+        &unread,
+        Counts::default(),
+    )
 }
 
 /// Appends the words on a folder that can't be read, for this reason: each place that can't be
@@ -38,6 +49,7 @@ pub(crate) fn push_unread_words(
     text: &mut String,
     folder: &str,
     fault: TreeFault,
+    wanted: Wanted,
 ) -> Result<(), AllocError> {
     if let Some(meaning) = unread(fault.number()) {
         let code = meaning.code;
@@ -53,8 +65,20 @@ pub(crate) fn push_unread_words(
         ..Counts::default()
     };
     match facts {
-        Some(facts) => push_facts_words(rt, text, folder, &facts, &unread, counts),
+        Some(facts) => {
+            let lines = lines_of(rt.alloc(), &facts, wanted)?;
+            push_facts_words(rt, text, folder, &facts, lines.as_str(), &unread, counts)
+        }
         None => Ok(()),
+    }
+}
+
+// The lines of what is wrong, as far as it is wanted.
+fn lines_of(alloc: Global, facts: &Facts, wanted: Wanted) -> Result<String, AllocError> {
+    match wanted {
+        Wanted::Nothing => Ok(String::new(alloc)),
+        Wanted::Gaps => explain_gaps(alloc, facts),
+        Wanted::All => explain(alloc, facts),
     }
 }
 
@@ -63,6 +87,7 @@ fn push_facts_words<'a>(
     text: &mut String,
     folder: &'a str,
     facts: &'a Facts,
+    lines: &str,
     unread: &UnreadPaths<'_>,
     counts: Counts,
 ) -> Result<(), AllocError> {
@@ -73,18 +98,18 @@ fn push_facts_words<'a>(
         facts,
         files: &files,
     };
-    push_bag_words(text, &bag, unread, counts)
+    push_bag_words(text, &bag, lines, unread, counts)
 }
 
 fn push_bag_words(
     text: &mut String,
     bag: &Bag<'_, '_>,
+    lines: &str,
     unread: &UnreadPaths<'_>,
     counts: Counts,
 ) -> Result<(), AllocError> {
     let mut counts = counts;
-    let lines = explain(bag.rt.alloc(), bag.facts)?;
-    let findings = findings_in(bag.rt.alloc(), lines.as_str(), unread)?;
+    let findings = findings_in(bag.rt.alloc(), lines, unread)?;
     push_findings(text, bag, findings.as_slice(), &mut counts)?;
     push_rfc(text, bag, findings.as_slice())?;
     push_warnings(text, bag, &mut counts)?;

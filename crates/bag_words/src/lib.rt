@@ -3,7 +3,7 @@
 //!
 //! ```
 //! let are_named = task.named || task.paths.len() != 1;
-//! SpokenFolders::new(rt, task.words, are_named, folders)
+//! SpokenFolders::new(rt, wanted_words(task), are_named, folders)
 //! ```
 #![tactic(auto)]
 
@@ -27,4 +27,4 @@ mod tag_files;
 mod twins;
 mod unread;
 
-pub use spoken_folders::SpokenFolders;
+pub use spoken_folders::{SpokenFolders, Wanted};

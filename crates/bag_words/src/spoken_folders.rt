@@ -8,6 +8,17 @@ use code_words::push_name;
 use std::alloc::AllocError;
 use std::io::IsTerminal;
 
+/// Which words are wanted.
+#[derive(Clone, Copy, Debug, PartialEq, Eq)]
+pub enum Wanted {
+    /// None.
+    Nothing,
+    /// Of what keeps a bag from being complete.
+    Gaps,
+    /// Of all that is wrong.
+    All,
+}
+
 /// Folders that say on standard error what a check of each finds, if that is asked for. They do so
 /// for a folder that was read when the next one is read, or at the end, so that its words come
 /// after its line. Otherwise it delegates to the folders.
@@ -21,8 +32,7 @@ pub struct SpokenFolders<'a, F> {
 #[derive(Drop)]
 struct Words<'a> {
     rt: &'a HostRuntime,
-    /// Whether there are any.
-    are_wanted: bool,
+    wanted: Wanted,
     /// Whether each line has the folder before it.
     are_named: bool,
     folder: String,
@@ -34,13 +44,13 @@ impl<'a, F: Folders> SpokenFolders<'a, F> {
     /// are named.
     pub fn new(
         rt: &'a HostRuntime,
-        are_wanted: bool,
+        wanted: Wanted,
         are_named: bool,
         folders: F,
     ) -> SpokenFolders<'a, F> {
         let words = Words {
             rt,
-            are_wanted,
+            wanted,
             are_named,
             folder: String::new(rt.alloc()),
             text: String::new(rt.alloc()),
@@ -91,15 +101,15 @@ impl<F: Folders> Folders for SpokenFolders<'_, F> {
 impl Words<'_> {
     // Notes what is to be said of a folder that was read. Without memory it notes less.
     fn note_read(&mut self, path: &str, facts: &Facts) {
-        if self.are_wanted && self.folder.push_str(path).is_ok() {
-            let _ = push_read_words(self.rt, &mut self.text, path, facts);
+        if self.wanted != Wanted::Nothing && self.folder.push_str(path).is_ok() {
+            let _ = push_read_words(self.rt, &mut self.text, path, facts, self.wanted);
         }
     }
 
     // Notes what is to be said of one that can't be read.
     fn note_unread(&mut self, path: &str, fault: TreeFault) {
-        if self.are_wanted && self.folder.push_str(path).is_ok() {
-            let _ = push_unread_words(self.rt, &mut self.text, path, fault);
+        if self.wanted != Wanted::Nothing && self.folder.push_str(path).is_ok() {
+            let _ = push_unread_words(self.rt, &mut self.text, path, fault, self.wanted);
         }
     }
 

@@ -36,9 +36,26 @@ fn run_source(rt: &HostRuntime, task: &RunTask<'_>) -> Result<u8, ProgramFault> 
             Err(error) if error.kind() == ErrorKind::OutOfMemory => {
                 write_output(&mut io::writer(rt), 1, "memory\n")
             }
-            Err(_) => Err(ProgramFault::Input),
+            Err(error) => {
+                if task.words {
+                    let _ = say_unread(rt, path, &error);
+                }
+                Err(ProgramFault::Input)
+            }
         },
     }
+}
+
+// Says why the schedule can't be read.
+fn say_unread(rt: &HostRuntime, path: &str, error: &io::Error) -> Result<(), AllocError> {
+    let mut name = String::new(rt.alloc());
+    push_name(&mut name, path)?;
+    let _ = match error.kind() {
+        ErrorKind::NotFound => eprintln!(rt; "{name} isn't there"),
+        ErrorKind::PermissionDenied => eprintln!(rt; "{name} may not be opened by this user"),
+        _ => eprintln!(rt; "{name} can't be opened: {error}"),
+    };
+    Ok(())
 }
 
 fn run_input<R: Read>(
@@ -103,6 +120,12 @@ fn show(rt: &HostRuntime, task: &RunTask<'_>, story: &Story) -> Result<u8, Alloc
 
 fn draw(rt: &HostRuntime, task: &RunTask<'_>, story: &Story, path: &str) -> Result<u8, AllocError> {
     let picture = drawing_of(rt, task, story, path)?;
+    if is_of_another_kind(rt, path) {
+        let mut name = String::new(rt.alloc());
+        push_name(&mut name, path)?;
+        let _ = eprintln!(rt; "error: {name} is there and is no picture; give another path");
+        return Ok(1);
+    }
     match fs::write(rt, path, picture.as_str()) {
         Ok(()) => Ok(0),
         Err(error) => {
@@ -111,6 +134,23 @@ fn draw(rt: &HostRuntime, task: &RunTask<'_>, story: &Story, path: &str) -> Resu
             let _ = eprintln!(rt; "error: the picture can't be written to {name}: {error}");
             Ok(1)
         }
+    }
+}
+
+// Whether a file is there that isn't empty and doesn't begin as a picture or a page does: it may be
+// the schedule, or anything else that a slip of the hand named.
+fn is_of_another_kind(rt: &HostRuntime, path: &str) -> bool {
+    match fs::metadata(rt, path) {
+        Ok(found) if found.is_file() => {}
+        _ => return false,
+    }
+    let mut front = [0u8; 5];
+    let Ok(mut file) = File::open(rt, path) else {
+        return false;
+    };
+    match file.read(&mut front) {
+        Ok(0) | Err(_) => false,
+        Ok(_) => front != *b"<svg " && front != *b"<!doc",
     }
 }
 

@@ -37,11 +37,11 @@ Lines that are blank, or begin with `#`, are skipped.
 With `--words` standard error says, once the lines are printed, what each
 command did, with its own line below it, and which datagrams were never
 delivered; or, if the text is no schedule, what is wrong with its first line at
-fault. With `--draw` a picture of the run is written to a file, in place of what
-is there: one column per site, time downwards, one arrow per datagram. If the
-file's name ends in `.html`, it is a page for a browser, in which you step
-through the run: after each event it shows what each site has on record, and
-which datagrams are under way.
+fault. With `--draw` a picture of the run is written to a file, in place of a
+picture that is there, and of nothing else: one column per site, time downwards,
+one arrow per datagram. If the file's name ends in `.html`, it is a page for a
+browser, in which you step through the run: after each event it shows what each
+site has on record, and which datagrams are under way.
 
 The exit status is 0; 1 if the text is no schedule (`schedule line N`), memory
 runs out (`memory`), the schedule can't be read (`input unread`), or standard

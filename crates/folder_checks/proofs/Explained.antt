@@ -10,9 +10,11 @@ use Rattle.bag_tree.specs.Facts.{TreeFacts}
 use Rattle.bag_tree.specs.Fault as tree_numbers
 use Rattle.std.specs.String.{string_bytes}
 use Rattle.outcomes.specs.declared.program_output.ProgramOutput.{ProgramOutput}
+use Rattle.folder_checks.specs.declared.report.Question.{Question}
+use Rattle.folder_checks.specs.declared.report.Question.TheVariants.{Validity, Completeness}
 use Rattle.folder_checks.specs.declared.verdict.Verdict.{Verdict}
 use Rattle.folder_checks.specs.declared.verdict.Verdict.TheVariants.{Unread}
-use Rattle.folder_checks.specs.Verdicts.{verdict_of, IsOrMemory}
+use Rattle.folder_checks.specs.Verdicts.{verdict_by, IsOrMemory}
 use Rattle.folder_checks.specs.Explanations.{unread_line, lines_after, outcome_with, IsAnswer}
 use Rattle.folder_checks.specs.Explanations.{IsPlace}
 
@@ -22,15 +24,15 @@ known_is None = tt
 known_is (Some place) = refl
 
 -- the answer for a tree that was read
-pub answered : (facts : TreeFacts) (verdict : Verdict) (lines : List ℕ)
-    (r : Result ProgramOutput AllocError) → IsOrMemory verdict (verdict_of (Ok facts))
-    → ((place : Option (List ℕ)) → lines ≡ lines_after verdict (Ok facts) place)
+pub answered : (question : Question) (facts : TreeFacts) (verdict : Verdict) (lines : List ℕ)
+    (r : Result ProgramOutput AllocError) → IsOrMemory verdict (verdict_by question (Ok facts))
+    → ((place : Option (List ℕ)) → lines ≡ lines_after question verdict (Ok facts) place)
     → IfOk r (λ a. a.status ≡ (outcome_with verdict lines).status)
     → IfOk r (λ a. string_bytes a.text ≡ (outcome_with verdict lines).text)
     → IfOk r (λ a. (known : Option (List ℕ))
-    → IsAnswer (Ok facts) known a.status (string_bytes a.text))
-answered facts verdict lines (Err e) is same s t = tt
-answered facts verdict lines (Ok a) is same s t = λ known. (
+    → IsAnswer question (Ok facts) known a.status (string_bytes a.text))
+answered question facts verdict lines (Err e) is same s t = tt
+answered question facts verdict lines (Ok a) is same s t = λ known. (
   verdict,
   known,
   is,
@@ -39,32 +41,39 @@ answered facts verdict lines (Ok a) is same s t = λ known. (
 )
 
 -- the verdict on a folder that wasn't read
-pub unread_is : (read : Result TreeFacts TreeFault) (fault : TreeFault)
+pub unread_is : (question : Question) (read : Result TreeFacts TreeFault) (fault : TreeFault)
     → tree_numbers.IsOrMemory {T = TreeFacts} (Err fault) read
-    → IsOrMemory (Unread fault) (verdict_of read)
-unread_is read tree_faults.Listing is = rw is refl
-unread_is read tree_faults.NotAFile is = rw is refl
-unread_is read tree_faults.TooDeep is = rw is refl
-unread_is read tree_faults.TooMany is = rw is refl
-unread_is read tree_faults.TextTooLong is = rw is refl
-unread_is read tree_faults.Device is = rw is refl
-unread_is read tree_faults.Memory is = tt
-unread_is read tree_faults.BadPath is = rw is refl
+    → IsOrMemory (Unread fault) (verdict_by question read)
+unread_is Validity read tree_faults.Listing is = rw is refl
+unread_is Completeness read tree_faults.Listing is = rw is refl
+unread_is Validity read tree_faults.NotAFile is = rw is refl
+unread_is Completeness read tree_faults.NotAFile is = rw is refl
+unread_is Validity read tree_faults.TooDeep is = rw is refl
+unread_is Completeness read tree_faults.TooDeep is = rw is refl
+unread_is Validity read tree_faults.TooMany is = rw is refl
+unread_is Completeness read tree_faults.TooMany is = rw is refl
+unread_is Validity read tree_faults.TextTooLong is = rw is refl
+unread_is Completeness read tree_faults.TextTooLong is = rw is refl
+unread_is Validity read tree_faults.Device is = rw is refl
+unread_is Completeness read tree_faults.Device is = rw is refl
+unread_is question read tree_faults.Memory is = tt
+unread_is Validity read tree_faults.BadPath is = rw is refl
+unread_is Completeness read tree_faults.BadPath is = rw is refl
 
 -- the answer for a folder that wasn't read
-pub unread : (read : Result TreeFacts TreeFault) (known place : Option (List ℕ)) (fault : TreeFault)
+pub unread : (question : Question) (read : Result TreeFacts TreeFault) (known place : Option (List ℕ)) (fault : TreeFault)
     (r : Result ProgramOutput AllocError) → tree_numbers.IsOrMemory (Err fault) read
     → IsPlace known place
     → IfOk r (λ a. a.status ≡ (outcome_with (Unread fault) (unread_line fault place)).status)
     → IfOk r
     (λ a. string_bytes a.text ≡ (outcome_with (Unread fault) (unread_line fault place)).text)
-    → IfOk r (λ a. IsAnswer read known a.status (string_bytes a.text))
-unread read known place fault (Err e) is at s t = tt
-unread read known place fault (Ok a) is at s t =
-    (Unread fault, place, unread_is read fault is, at, (s, t))
+    → IfOk r (λ a. IsAnswer question read known a.status (string_bytes a.text))
+unread question read known place fault (Err e) is at s t = tt
+unread question read known place fault (Ok a) is at s t =
+    (Unread fault, place, unread_is question read fault is, at, (s, t))
 
 -- the same, where it is known what a read gives
-pub unread_known : (gives : Option (List ℕ → Result TreeFacts TreeFault))
+pub unread_known : (question : Question) (gives : Option (List ℕ → Result TreeFacts TreeFault))
     (known place : Option (List ℕ)) (path lines : List ℕ) (fault : TreeFault)
     (r : Result ProgramOutput AllocError)
     → IfSome gives (λ gives. tree_numbers.IsOrMemory {T = TreeFacts} (Err fault) (gives path))
@@ -72,22 +81,22 @@ pub unread_known : (gives : Option (List ℕ → Result TreeFacts TreeFault))
     → IfOk r (λ a. a.status ≡ (outcome_with (Unread fault) lines).status)
     → IfOk r (λ a. string_bytes a.text ≡ (outcome_with (Unread fault) lines).text)
     → IfOk r (λ a. IfSome gives
-    (λ gives. IsAnswer (gives path) known a.status (string_bytes a.text)))
-unread_known gives known place path lines fault (Err e) is at same s t = tt
-unread_known None known place path lines fault (Ok a) is at same s t = tt
-unread_known (Some gives) known place path lines fault (Ok a) is at same s t =
-    unread (gives path) known place fault (Ok a) is at
+    (λ gives. IsAnswer question (gives path) known a.status (string_bytes a.text)))
+unread_known question gives known place path lines fault (Err e) is at same s t = tt
+unread_known question None known place path lines fault (Ok a) is at same s t = tt
+unread_known question (Some gives) known place path lines fault (Ok a) is at same s t =
+    unread question (gives path) known place fault (Ok a) is at
     (s ∙ ap (λ l. (outcome_with (Unread fault) l).status) same)
     (t ∙ ap (λ l. (outcome_with (Unread fault) l).text) same)
 
 -- the answer for a folder that was read, where it is known what a read gives
-pub read_known : (gives : Option (List ℕ → Result TreeFacts TreeFault)) (known : Option (List ℕ))
+pub read_known : (question : Question) (gives : Option (List ℕ → Result TreeFacts TreeFault)) (known : Option (List ℕ))
     (path : List ℕ) (facts : TreeFacts) (r : Result ProgramOutput AllocError)
     → IfSome gives (λ gives. tree_numbers.IsOrMemory {T = TreeFacts} (Ok facts) (gives path))
     → IfOk r (λ a. (known : Option (List ℕ))
-    → IsAnswer (Ok facts) known a.status (string_bytes a.text))
+    → IsAnswer question (Ok facts) known a.status (string_bytes a.text))
     → IfOk r (λ a. IfSome gives
-    (λ gives. IsAnswer (gives path) known a.status (string_bytes a.text)))
-read_known gives known path facts (Err e) is answers = tt
-read_known None known path facts (Ok a) is answers = tt
-read_known (Some gives) known path facts (Ok a) is answers = rw is (answers known)
+    (λ gives. IsAnswer question (gives path) known a.status (string_bytes a.text)))
+read_known question gives known path facts (Err e) is answers = tt
+read_known question None known path facts (Ok a) is answers = tt
+read_known question (Some gives) known path facts (Ok a) is answers = rw is (answers known)

@@ -14,14 +14,13 @@ use Rattle.std.specs.declared.alloc.AllocError.{AllocError}
 use Rattle.bag_tree.specs.declared.fault.TreeFault.{TreeFault}
 use Rattle.bag_tree.specs.Facts.{TreeFacts}
 use Rattle.bag_tree.specs.Fault as tree_numbers
-use Rattle.bag_explain.specs.Findings.{explanation_of}
 use Rattle.folder_checks.specs.declared.found.Found.{Found}
 use Rattle.folder_checks.specs.declared.measure.Measure.{Measure}
 use Rattle.folder_checks.specs.declared.report.Report.{Report}
 use Rattle.folder_checks.specs.declared.verdict.Verdict.{Verdict}
 use Rattle.folder_checks.specs.declared.verdict.Verdict.TheVariants.{Unread}
-use Rattle.folder_checks.specs.Verdicts.{verdict_of, IsOrMemory, outcome_of_verdict}
-use Rattle.folder_checks.specs.Explanations.{unread_line, lines_after, IsPlace}
+use Rattle.folder_checks.specs.Verdicts.{verdict_by, IsOrMemory, outcome_of_verdict}
+use Rattle.folder_checks.specs.Explanations.{unread_line, lines_by, lines_after, IsPlace}
 use Rattle.folder_checks.specs.Json.{IsFound, IsLineOf, asked_lines, files_in, folder_data}
 use Rattle.folder_checks.specs.Json.{finding_data}
 use Rattle.folder_checks.specs.Names.{read_of, place_of}
@@ -39,10 +38,11 @@ Finds report read known found =
 
 -- of a tree that was read
 pub found_in : (report : Report) (facts : TreeFacts) (verdict : Verdict) (files : Option ℕ)
-    (lines : Option (List ℕ)) → IsOrMemory verdict (verdict_of (Ok facts))
+    (lines : Option (List ℕ)) → IsOrMemory verdict (verdict_by report.question (Ok facts))
     → files ≡ files_in verdict (Ok facts)
-    → ((place : Option (List ℕ)) → lines_after verdict (Ok facts) place ≡ explanation_of facts)
-    → lines ≡ asked_lines report (explanation_of facts)
+    → ((place : Option (List ℕ)) → lines_after report.question verdict (Ok facts) place
+    ≡ lines_by report.question facts)
+    → lines ≡ asked_lines report (lines_by report.question facts)
     → (known : Option (List ℕ)) → IsFound report (Ok facts) known verdict files lines
 found_in report facts verdict files lines is count after are known =
     (is, count, (known, known_is known, are ∙ ap (asked_lines report) (sym (after known))))
@@ -68,7 +68,7 @@ unread : (report : Report) (read : Result TreeFacts TreeFault) (known place : Op
     → tree_numbers.IsOrMemory {T = TreeFacts} (Err fault) read → IsPlace known place
     → IsUnread report fault place found → Finds report read known found
 unread report read known place fault found is at (verdict, files, lines) =
-    rw verdict (unread_is read fault is, files, (place, at, lines))
+    rw verdict (unread_is report.question read fault is, files, (place, at, lines))
 
 pub found_unread : (gives : Option Given) (known place : Option (List ℕ)) (path : List ℕ)
     (fault : TreeFault) (report : Report) (r : Result Found AllocError)

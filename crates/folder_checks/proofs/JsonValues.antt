@@ -16,7 +16,8 @@ use Rattle.bag_tree.specs.Fault as tree_numbers
 use Rattle.bag_check.specs.Fault as bag_numbers
 use Rattle.folder_checks.specs.declared.measure.Measure.{Measure}
 use Rattle.folder_checks.specs.declared.verdict.Verdict.{Verdict}
-use Rattle.folder_checks.specs.declared.verdict.Verdict.TheVariants.{Valid, Invalid, Unread}
+use Rattle.folder_checks.specs.declared.verdict.Verdict.TheVariants.{Valid, Complete, Invalid}
+use Rattle.folder_checks.specs.declared.verdict.Verdict.TheVariants.{Unread}
 use Rattle.folder_checks.specs.Json.{IsLineOf, text_data, code_data, identity_data, finding_at}
 use Rattle.folder_checks.specs.Json.{finding_data, count_data, places_data, words_data, folder_data}
 use Rattle.folder_checks.specs.Json.{number_data, verdict_word}
@@ -65,11 +66,13 @@ plain_text bytes most = go (is_utf8 bytes)
 
 plain_code : (verdict : Verdict) (most : ℕ) → IsPlain most (code_data verdict)
 plain_code (Valid bag) most = plain_null most
+plain_code (Complete bag) most = plain_null most
 plain_code (Invalid fault) most = plain_number (bag_numbers.number_of fault) most
 plain_code (Unread fault) most = plain_number (tree_numbers.number_of fault) most
 
 plain_identity : (verdict : Verdict) (most : ℕ) → IsPlain most (identity_data verdict)
 plain_identity (Valid bag) most = plain_string (encode_lower bag.0) most
+plain_identity (Complete bag) most = plain_string (encode_lower bag.0) most
 plain_identity (Invalid fault) most = plain_null most
 plain_identity (Unread fault) most = plain_null most
 

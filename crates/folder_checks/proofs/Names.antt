@@ -25,10 +25,12 @@ use Rattle.outcomes.specs.declared.program_output.ProgramOutput.{ProgramOutput}
 use Rattle.outcomes.specs.declared.fault.ProgramFault.{ProgramFault}
 use Rattle.outcomes.specs.declared.fault.ProgramFault.TheVariants as ProgramFaults
 use Rattle.folder_checks.specs.declared.report.Report.{Report}
-use Rattle.folder_checks.specs.declared.report.Report.TheVariants.{Brief}
+use Rattle.folder_checks.specs.declared.report.Detail.TheVariants.{Brief}
+use Rattle.folder_checks.specs.declared.report.Question.{Question}
+use Rattle.folder_checks.specs.declared.report.Question.TheVariants.{Validity, Completeness}
 use Rattle.folder_checks.specs.declared.verdict.Verdict.TheVariants.{Unread}
 use Rattle.folder_checks.specs.Verdicts.{outcome_of_verdict}
-use Rattle.folder_checks.specs.Reports.{all_valid, all_of, TellsFor}
+use Rattle.folder_checks.specs.Reports.{all_valid, all_of, TellsFor, TellsBy}
 use Rattle.folder_checks.specs.Names.{AreOf, EndsAll, names_of, without_end, read_of, place_of}
 
 -- what reads of folders give
@@ -81,13 +83,15 @@ Tells report read place a =
     (λ outcome. (a.status ≡ outcome.status) × (string_bytes a.text ≡ outcome.text))
 
 -- the brief answer for a folder that can't be listed
-pub unlisted_brief : (place : Option (List ℕ)) (r : Result ProgramOutput AllocError)
+pub unlisted_brief : (question : Question) (place : Option (List ℕ))
+    (r : Result ProgramOutput AllocError)
     → IfOk r (λ a. a.status ≡ (outcome_of_verdict (Unread Listing)).status)
     → IfOk r (λ a. string_bytes a.text ≡ (outcome_of_verdict (Unread Listing)).text)
-    → IfOk r (λ a. TellsFor Brief (Err Listing) place
+    → IfOk r (λ a. TellsBy Brief question (Err Listing) place
     (λ outcome. (a.status ≡ outcome.status) × (string_bytes a.text ≡ outcome.text)))
-unlisted_brief place (Err e) status text = tt
-unlisted_brief place (Ok a) status text = (Unread Listing, refl, (status, text))
+unlisted_brief question place (Err e) status text = tt
+unlisted_brief Validity place (Ok a) status text = (Unread Listing, refl, (status, text))
+unlisted_brief Completeness place (Ok a) status text = (Unread Listing, refl, (status, text))
 
 -- with which outcomes the check of the folder of a name may end, by where reads fail and what they
 -- give

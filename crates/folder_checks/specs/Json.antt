@@ -17,11 +17,12 @@ use Rattle.bag_tree.specs.Fault as tree_numbers
 use Rattle.bag_check.specs.Fault as bag_numbers
 use Rattle.folder_checks.specs.declared.measure.Measure.{Measure}
 use Rattle.folder_checks.specs.declared.report.Report.{Report}
-use Rattle.folder_checks.specs.declared.report.Report.TheVariants.{Brief, Explained}
+use Rattle.folder_checks.specs.declared.report.Detail.{Detail}
+use Rattle.folder_checks.specs.declared.report.Detail.TheVariants.{Brief, Explained}
 use Rattle.folder_checks.specs.declared.verdict.Verdict.{Verdict}
-use Rattle.folder_checks.specs.declared.verdict.Verdict.TheVariants.{Valid, Invalid, Unread}
+use Rattle.folder_checks.specs.declared.verdict.Verdict.TheVariants.{Valid, Complete, Invalid, Unread}
 use Rattle.outcomes.specs.Outcomes.{Outcome}
-use Rattle.folder_checks.specs.Verdicts.{verdict_of, IsOrMemory, outcome_of_verdict}
+use Rattle.folder_checks.specs.Verdicts.{verdict_by, IsOrMemory, outcome_of_verdict}
 use Rattle.folder_checks.specs.Explanations.{IsPlace, lines_after}
 use Rattle.folder_checks.specs.Names.{names_of}
 
@@ -36,16 +37,19 @@ number_data n = number (unsigned n)
 
 abbrev pub verdict_word : Verdict → List ℕ
 verdict_word (Valid bag) = codes "valid"
+verdict_word (Complete bag) = codes "complete"
 verdict_word (Invalid fault) = codes "invalid"
 verdict_word (Unread fault) = codes "unread"
 
 abbrev pub code_data : Verdict → Data
 code_data (Valid bag) = null
+code_data (Complete bag) = null
 code_data (Invalid fault) = number_data (bag_numbers.number_of fault)
 code_data (Unread fault) = number_data (tree_numbers.number_of fault)
 
 abbrev pub identity_data : Verdict → Data
 identity_data (Valid bag) = string (encode_lower bag.0)
+identity_data (Complete bag) = string (encode_lower bag.0)
 identity_data (Invalid fault) = null
 identity_data (Unread fault) = null
 
@@ -97,12 +101,16 @@ count_of (Err fault) = None
 abbrev pub files_in : Verdict → Result TreeFacts TreeFault → Option ℕ
 files_in (Unread fault) read = None
 files_in (Valid bag) read = count_of read
+files_in (Complete bag) read = count_of read
 files_in (Invalid fault) read = count_of read
 
 -- the lines, if they are asked for
+abbrev pub lines_in : Detail → List ℕ → Option (List ℕ)
+lines_in Brief lines = None
+lines_in Explained lines = Some lines
+
 abbrev pub asked_lines : Report → List ℕ → Option (List ℕ)
-asked_lines Brief lines = None
-asked_lines Explained lines = Some lines
+asked_lines report lines = lines_in report.detail lines
 
 -- the text is a line, and a reader of JSON has this value of it
 abbrev pub IsLineOf : Data → List ℕ → Type 0
@@ -117,9 +125,9 @@ json_memory = record { status = 1; text = codes "{\"verdict\":\"memory\"}" ++ 10
 abbrev pub IsFound : Report → Result TreeFacts TreeFault → Option (List ℕ) → Verdict → Option ℕ
     → Option (List ℕ) → Type 0
 IsFound report read known verdict files lines =
-    IsOrMemory verdict (verdict_of read) × (files ≡ files_in verdict read)
+    IsOrMemory verdict (verdict_by report.question read) × (files ≡ files_in verdict read)
     × ((place : Option (List ℕ)) × IsPlace known place
-    × (lines ≡ asked_lines report (lines_after verdict read place)))
+    × (lines ≡ asked_lines report (lines_after report.question verdict read place)))
 
 -- the line of the folder of this name, and the status, by what a read of it gives and where it
 -- fails; what was measured, and which words the code has, is left open

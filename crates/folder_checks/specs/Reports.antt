@@ -6,17 +6,28 @@ use Rattle.words.specs.Escapes.{escaped_text}
 use Rattle.bag_tree.specs.declared.fault.TreeFault.{TreeFault}
 use Rattle.bag_tree.specs.Facts.{TreeFacts}
 use Rattle.folder_checks.specs.declared.report.Report.{Report}
-use Rattle.folder_checks.specs.declared.report.Report.TheVariants.{Brief, Explained}
+use Rattle.folder_checks.specs.declared.report.Detail.{Detail}
+use Rattle.folder_checks.specs.declared.report.Detail.TheVariants.{Brief, Explained}
+use Rattle.folder_checks.specs.declared.report.Question.{Question}
+use Rattle.folder_checks.specs.declared.report.Question.TheVariants.{Validity}
 use Rattle.outcomes.specs.Outcomes.{Outcome, no_memory}
-use Rattle.folder_checks.specs.Verdicts.{verdict_of, SaysFor}
+use Rattle.folder_checks.specs.Verdicts.{verdict_by, SaysFor}
 use Rattle.folder_checks.specs.Explanations.{SaysAllFor}
 
 -- what is written for a folder, from what a read of it gives and where it fails, if there is room
 -- for its lines
+abbrev pub TellsBy : Detail → Question → Result TreeFacts TreeFault → Option (List ℕ)
+    → (Outcome → Type 0) → Type 0
+TellsBy Brief question read place P = SaysFor (verdict_by question read) P
+TellsBy Explained question read place P = SaysAllFor question read place P
+
 abbrev pub TellsFor : Report → Result TreeFacts TreeFault → Option (List ℕ)
     → (Outcome → Type 0) → Type 0
-TellsFor Brief read place P = SaysFor (verdict_of read) P
-TellsFor Explained read place P = SaysAllFor read place P
+TellsFor report read place P = TellsBy report.detail report.question read place P
+
+-- a report on whether a folder is a valid bag
+abbrev pub validity : Detail → Report
+validity detail = record { question = Validity; detail = detail }
 
 -- what a check of a folder may end with: its lines, or that memory ran out
 abbrev pub ReportsFor : Report → Result TreeFacts TreeFault → Option (List ℕ)

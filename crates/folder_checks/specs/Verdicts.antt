@@ -11,19 +11,36 @@ use Rattle.bag_check.specs.declared.fault.BagFault.{BagFault}
 use Rattle.bag_check.specs.declared.fault.BagFault.TheVariants as bag_faults
 use Rattle.bag_check.specs.Fault as bag_numbers
 use Rattle.bag_check.specs.Check.{check_of}
+use Rattle.bag_check.specs.Complete.{complete_of}
+use Rattle.folder_checks.specs.declared.report.Question.{Question}
+use Rattle.folder_checks.specs.declared.report.Question.TheVariants.{Validity, Completeness}
 use Rattle.folder_checks.specs.declared.verdict.Verdict.{Verdict}
-use Rattle.folder_checks.specs.declared.verdict.Verdict.TheVariants.{Valid, Invalid, Unread}
+use Rattle.folder_checks.specs.declared.verdict.Verdict.TheVariants.{Valid, Complete, Invalid, Unread}
 use Rattle.outcomes.specs.Outcomes.{Outcome, no_memory}
 
 abbrev pub verdict_of_check : Result BagId BagFault → Verdict
 verdict_of_check (Ok bag) = Valid bag
 verdict_of_check (Err fault) = Invalid fault
 
+abbrev pub verdict_of_complete : Result BagId BagFault → Verdict
+verdict_of_complete (Ok bag) = Complete bag
+verdict_of_complete (Err fault) = Invalid fault
+
 -- the verdict on what a read of a folder gives: its identity, or the first fault that holds, or why
 -- it can't be read
 abbrev pub verdict_of : Result TreeFacts TreeFault → Verdict
 verdict_of (Ok facts) = verdict_of_check (check_of facts)
 verdict_of (Err fault) = Unread fault
+
+-- the same where it is asked whether the bag is complete
+abbrev pub completeness_of : Result TreeFacts TreeFault → Verdict
+completeness_of (Ok facts) = verdict_of_complete (complete_of facts)
+completeness_of (Err fault) = Unread fault
+
+-- the verdict that is asked for
+abbrev pub verdict_by : Question → Result TreeFacts TreeFault → Verdict
+verdict_by Validity read = verdict_of read
+verdict_by Completeness read = completeness_of read
 
 -- the answer is this verdict, or that memory ran out
 abbrev pub IsOrMemory : Verdict → Verdict → Type 0
@@ -35,6 +52,8 @@ IsOrMemory answer wanted = answer ≡ wanted
 abbrev pub outcome_of_verdict : Verdict → Outcome
 outcome_of_verdict (Valid bag) =
     record { status = 0; text = codes "valid " ++ encode_lower bag.0 ++ 10 ∷ [] }
+outcome_of_verdict (Complete bag) =
+    record { status = 0; text = codes "complete " ++ encode_lower bag.0 ++ 10 ∷ [] }
 outcome_of_verdict (Invalid fault) =
     record {
       status = 1;

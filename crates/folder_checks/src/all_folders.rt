@@ -6,7 +6,7 @@ ghost use Rattle.cell_device.specs.Calls.{HasCause};
 ghost use Rattle.folder_checks.specs.Reports.{ReportsOn, ReportsFirst};
 
 use crate::explanation::explain_on;
-use crate::report::Report;
+use crate::report::{Detail, Report};
 use crate::several_folders::check_each_on;
 use crate::verdict::check_on;
 use bag_folders::Folders;
@@ -35,9 +35,9 @@ pub fn check_all_on<F: Folders, W: CountedWrite>(
         result }
 {
     match paths {
-        [path] => match report {
-            Report::Brief => check_on(alloc, folders, path, output),
-            Report::Explained => explain_on(alloc, folders, path, output),
+        [path] => match report.detail {
+            Detail::Brief => check_on(alloc, folders, path, report.question, output),
+            Detail::Explained => explain_on(alloc, folders, path, report.question, output),
         },
         _ => check_each_on(alloc, folders, paths, report, output),
     }

@@ -2,7 +2,7 @@
 
 use crate::folder_list::FolderList;
 use crate::form::Form;
-use crate::report::Report;
+use crate::report::{Detail, Question, Report};
 use clap::{Arg, ArgAction, ArgMatches, Command};
 use std::alloc::{AllocError, Global};
 
@@ -47,6 +47,10 @@ number of the fault and where it is, a space as %20:
   6 data/a.txt                          after `unread 6`: what can't be read,
                                         `.` for the folder itself
 
+With --complete no file is read but the bag's texts, so it is quick, and digests
+are left out: `complete HEX` says that the bag has none of the faults 1 to 13,
+but not that it is valid.
+
 Of several folders, each of these lines but `memory` has the folder before it:
   path/to/bag invalid 14
 With --named, --from or --from0 that is so of one folder too.
@@ -72,9 +76,10 @@ bags is done; on a terminal it comes again at once if a bag's line cleared it:
 With --json each folder has a line of JSON, by its name as with --named:
   {\"bytes\":42,\"code\":12,\"escaped\":\"a%20b\",\"files\":3,\"folder\":\"a b\", ..}
 Its members are the name as it is (folder; null if it isn't UTF-8) and escaped,
-the verdict (valid, invalid, unread), its code and what that says (words), the
-bag's identity, how many files and bytes there are, how many seconds it took,
-and with --explain the places of what is wrong. FORMATS.md has each of these.
+the verdict (valid, complete, invalid, unread), its code and what that says
+(words), the bag's identity, how many files and bytes there are, how many
+seconds it took, and with --explain the places of what is wrong. FORMATS.md has
+each of these.
 
 With --registered FILE, a site's cell or a list that `ledger` printed (`-` is
 standard input), lines there say which of the known bags the folders are, once
@@ -86,13 +91,14 @@ and if FILE can't be used, the only line on standard output says why: `open 4`,
 `damaged OFFSET`, `ledger line N`. With --versions standard output has all of
 these lines, after those of the folders.
 
-The exit status is 0 if each folder is a valid bag, and with --registered each
-is registered and none is missing; 1 for all else; and 2 for a mistake in the
-arguments.
+The exit status is 0 if each folder is a valid bag (with --complete, a complete
+one), and with --registered each is registered and none is missing; 1 for all
+else; and 2 for a mistake in the arguments.
 
 Examples:
   bagpaxos check path/to/bag
   bagpaxos check --explain path/to/bag
+  bagpaxos check --complete path/to/bag
   bagpaxos check --progress path/to/bag
   bagpaxos check path/to/bag path/to/another
   bagpaxos check --registered cell.1 bags/*
@@ -104,7 +110,8 @@ Examples:
 pub struct CheckTask<'a> {
     /// Their paths: one or more, or none if there is a list.
     pub paths: Vec<&'a str>,
-    pub report: Report,
+    pub question: Question,
+    pub detail: Detail,
     /// Whether each line has the folder before it, of one folder too.
     pub named: bool,
     /// Whether each folder has a line of JSON in place of other lines.
@@ -125,12 +132,20 @@ pub struct CheckTask<'a> {
 }
 
 impl CheckTask<'_> {
+    /// What is reported of each folder.
+    pub fn report(&self) -> Report {
+        Report {
+            question: self.question,
+            detail: self.detail,
+        }
+    }
+
     /// In which form folders that are named are reported.
     pub fn form(&self) -> Form {
         if self.json {
-            Form::Json(self.report)
+            Form::Json(self.report())
         } else {
-            Form::Lines(self.report)
+            Form::Lines(self.report())
         }
     }
 }
@@ -144,14 +159,20 @@ pub fn check_task<'a>(
     if let Some(folders) = matches.get_strs("FOLDER") {
         paths.extend_from_slice(folders)?;
     }
-    let report = if matches.get_flag("explain") {
-        Report::Explained
+    let question = if matches.get_flag("complete") {
+        Question::Completeness
     } else {
-        Report::Brief
+        Question::Validity
+    };
+    let detail = if matches.get_flag("explain") {
+        Detail::Explained
+    } else {
+        Detail::Brief
     };
     Ok(CheckTask {
         paths,
-        report,
+        question,
+        detail,
         named: matches.get_flag("named") || matches.get_flag("json"),
         json: matches.get_flag("json"),
         list: list_in(matches),
@@ -190,11 +211,20 @@ pub fn check_command<'a>(alloc: Global) -> Result<Command<'a>, AllocError> {
     let command = Command::new(alloc, "check")
         .about(ABOUT)
         .after_help(EXAMPLE);
+    let command = command.arg(complete_argument(alloc)?)?;
     let command = with_flags(command, explain, words_argument(alloc))?;
     let command = with_flags(command, progress, quiet_argument(alloc)?)?;
     let command = with_flags(command, named_argument(alloc)?, list_argument(alloc)?)?;
     let command = with_flags(command, list0_argument(alloc)?, json_argument(alloc)?)?;
     with_flags(command, registered, versions_argument(alloc)?)?.arg(folders_argument(alloc)?)
+}
+
+fn complete_argument<'a>(alloc: Global) -> Result<Arg<'a>, AllocError> {
+    Arg::new(alloc, "complete")
+        .long("complete")
+        .action(ArgAction::SetTrue)
+        .help("Check all but digests, by the bag's texts alone")
+        .conflicts_with("registered")
 }
 
 fn versions_argument<'a>(alloc: Global) -> Result<Arg<'a>, AllocError> {

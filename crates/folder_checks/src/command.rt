@@ -5,12 +5,14 @@ use crate::arguments::CheckTask;
 use crate::folder_list::{FolderList, list_bytes, names_in};
 use crate::named_folders::check_names_on;
 use crate::progress::{Progress, Saying};
-use crate::report::Report;
+use crate::read_folders::{Digests, ReadFolders};
+use crate::report::{Detail, Question};
 use crate::tallied_folders::TalliedFolders;
 use crate::tally::Tally;
-use bag_folders::{DiskFolders, Folders};
-use bag_words::SpokenFolders;
+use bag_folders::Folders;
+use bag_words::{SpokenFolders, Wanted};
 use counted_writes::{CountedWrite, CountedWriter, write_output};
+use file_words::push_file_words;
 use outcomes::{ProgramFault, ReadFault};
 use std::alloc::{AllocError, Global};
 use std::io::{IsTerminal, Stderr};
@@ -36,7 +38,13 @@ fn check_listed(
     let mut output = CountedWriter::new(io::writer(rt));
     let bytes = match list_bytes(rt, list) {
         Ok(bytes) => bytes,
-        Err(ReadFault::Input) => return write_output(&mut output, 1, unread_list(task)),
+        Err(ReadFault::Input) => {
+            let status = write_output(&mut output, 1, unread_list(task))?;
+            if task.words {
+                say_unread(rt, list.path);
+            }
+            return Ok(status);
+        }
         Err(ReadFault::Memory) => return write_output(&mut output, 1, no_memory(task)),
     };
     match names_in(rt.alloc(), bytes.as_slice(), list.end) {
@@ -51,6 +59,14 @@ fn check_named(rt: &HostRuntime, task: &CheckTask<'_>) -> Result<u8, ProgramFaul
     match names_of(rt.alloc(), task.paths.as_slice()) {
         Ok(names) => check_names(rt, task, names.as_slice(), &mut output),
         Err(AllocError) => write_output(&mut output, 1, no_memory(task)),
+    }
+}
+
+// Says why a list can't be read.
+fn say_unread(rt: &HostRuntime, path: &str) {
+    let mut text = String::new(rt.alloc());
+    if push_file_words(rt, &mut text, path, "open 4").is_ok() {
+        let _ = rt.eprintln(text.as_str());
     }
 }
 
@@ -86,7 +102,7 @@ fn check_names<W: CountedWrite>(
     names: &[&[u8]],
     output: &mut W,
 ) -> Result<u8, ProgramFault> {
-    let folders = TalliedFolders::new(rt, are_all_wanted(task), tally(rt, task, names));
+    let folders = TalliedFolders::new(rt, digests(task), tally(rt, task, names));
     let mut folders = spoken_folders(rt, task, folders);
     let answer = check_names_on(rt.alloc(), &mut folders, names, task.form(), output);
     folders.folders().end();
@@ -119,7 +135,7 @@ fn check_given(rt: &HostRuntime, task: &CheckTask<'_>) -> Result<u8, ProgramFaul
         Ok(folders) => {
             let mut folders = spoken_folders(rt, task, folders);
             let paths = task.paths.as_slice();
-            let status = check_all_on(rt.alloc(), &mut folders, paths, task.report, &mut output)?;
+            let status = check_all_on(rt.alloc(), &mut folders, paths, task.report(), &mut output)?;
             folders.say();
             Ok(status)
         }
@@ -135,7 +151,16 @@ pub fn spoken_folders<'a, F: Folders>(
     folders: F,
 ) -> SpokenFolders<'a, F> {
     let are_named = task.named || task.paths.len() != 1;
-    SpokenFolders::new(rt, task.words, are_named, folders)
+    SpokenFolders::new(rt, wanted_words(task), are_named, folders)
+}
+
+// Which words are wanted.
+fn wanted_words(task: &CheckTask<'_>) -> Wanted {
+    match task.question {
+        _ if !task.words => Wanted::Nothing,
+        Question::Completeness => Wanted::Gaps,
+        Question::Validity => Wanted::All,
+    }
 }
 
 /// The folders of the file system. They report the progress of each check on standard error, if
@@ -143,14 +168,9 @@ pub fn spoken_folders<'a, F: Folders>(
 pub fn watched_folders(
     rt: &HostRuntime,
     task: &CheckTask<'_>,
-) -> Result<DiskFolders<HostRuntime, Progress<HostRuntime, Stderr>>, AllocError> {
+) -> Result<ReadFolders<Progress<HostRuntime, Stderr>>, AllocError> {
     let watcher = Progress::new(rt.alloc(), rt.clone()?, rt.stderr(), saying(rt, task));
-    let folders = DiskFolders::watched(rt.clone()?, watcher);
-    if are_all_wanted(task) {
-        Ok(folders.with_all_digests())
-    } else {
-        Ok(folders)
-    }
+    Ok(ReadFolders::new(rt.clone()?, watcher, digests(task)))
 }
 
 // When progress is reported.
@@ -166,8 +186,11 @@ fn saying(rt: &HostRuntime, task: &CheckTask<'_>) -> Saying {
     }
 }
 
-// Whether all digests are wanted: everything that is wrong is reported if that is asked for,
-// including wrong digests.
-fn are_all_wanted(task: &CheckTask<'_>) -> bool {
-    task.words || task.report == Report::Explained
+// Which digests are computed: everything that is wrong is reported if that is asked for, including
+// wrong digests.
+fn digests(task: &CheckTask<'_>) -> Digests {
+    Digests::for_question(
+        task.question,
+        task.words || task.detail == Detail::Explained,
+    )
 }

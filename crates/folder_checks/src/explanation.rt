@@ -1,21 +1,17 @@
 //! One check of a folder, with all that is wrong.
 
-ghost use Rattle.std.specs.Prelude.{◌≡◌, ℕ, List, Option, Some, length, option_copied, string_bytes};
+ghost use Rattle.std.specs.Prelude.{◌≡◌, ℕ, List, Option, Ok, option_copied, string_bytes};
 ghost use Rattle.std.specs.Prelude.{IfErr, IfOk, IfSome, IsErrOf};
 ghost use Rattle.outcomes.specs.Outcomes.{Writes, WritesPrefix};
-ghost use Rattle.bag_check.specs.Check.{check_of};
-ghost use Rattle.bag_explain.specs.Findings.{explanation_of};
 ghost use Rattle.cell_device.specs.Calls.{HasCause};
-ghost use Rattle.folder_checks.specs.Verdicts.{verdict_of_check, IsOrMemory};
 ghost use Rattle.folder_checks.specs.Explanations.{ExplainsFor, IsAnswer, outcome_with};
-ghost use Rattle.folder_checks.specs.Explanations.{lines_after};
+ghost use Rattle.folder_checks.specs.Explanations.{lines_by};
 ghost use Rattle.folder_checks.specs.Explanations.{unread_line};
-ghost use Rattle.folder_checks.specs.Json.{files_in};
 
-use crate::verdict::{Verdict, line_of};
-use bag_check::check;
+use crate::report::Question;
+use crate::verdict::{Verdict, line_of, verdict_of};
 use bag_digest::Algorithms;
-use bag_explain::explain;
+use bag_explain::{explain, explain_gaps};
 use bag_folders::Folders;
 use bag_tree::{Facts, TreeFault};
 use counted_writes::{CountedWrite, write_output};
@@ -31,20 +27,21 @@ pub fn explain_on<F: Folders, W: CountedWrite>(
     alloc: Global,
     folders: &mut F,
     path: &str,
+    question: Question,
     output: &mut W,
 ) -> Result<u8, ProgramFault>
     ensures ok { IfOk result (λ status. IfSome (F.gives folders.old) (λ gives.
-        ExplainsFor (gives path.now) (F.fails_at folders.old)
+        ExplainsFor question (gives path.now) (F.fails_at folders.old)
         (Writes (W.contents output.old) (W.contents output.new) status))) }
     ensures output { IsErrOf result ProgramFault.Output → IfSome (F.gives folders.old) (λ gives.
-        ExplainsFor (gives path.now) (F.fails_at folders.old)
+        ExplainsFor question (gives path.now) (F.fails_at folders.old)
         (WritesPrefix (W.contents output.old) (W.contents output.new))) }
     ensures kept { F.gives folders.new ≡ F.gives folders.old }
     ensures fault { IfErr result (λ fault. fault ≡ ProgramFault.Output) }
     ensures cause { HasCause ProgramFault.Output (W.failures output.old) (W.failures output.new)
         result }
 {
-    match answer_on(alloc, folders, path) {
+    match answer_on(alloc, folders, path, question) {
         Ok(answer) => write_output(output, answer.status, answer.text.as_str()),
         Err(AllocError) => write_output(output, 1, "memory\n"),
     }
@@ -55,9 +52,10 @@ pub(crate) fn answer_on<F: Folders>(
     alloc: Global,
     folders: &mut F,
     path: &str,
+    question: Question,
 ) -> Result<ProgramOutput, AllocError>
     ensures ok { IfOk result (λ answer. IfSome (F.gives folders.old) (λ gives.
-        IsAnswer (gives path.now) (F.fails_at folders.old) answer.status
+        IsAnswer question (gives path.now) (F.fails_at folders.old) answer.status
         (string_bytes answer.text))) }
     ensures kept { F.gives folders.new ≡ F.gives folders.old }
     ensures place { F.fails_at folders.new ≡ F.fails_at folders.old }
@@ -66,7 +64,7 @@ pub(crate) fn answer_on<F: Folders>(
         Ok(mut facts) => {
             // A text may be listed astray as often as an adversary likes.
             facts.compute_digests(Algorithms::all());
-            answer_of(alloc, &facts)
+            answer_of(alloc, &facts, question)
         }
         Err(fault) => {
             let line = place_line(alloc, fault, folders.failed_at())?;
@@ -95,25 +93,26 @@ pub(crate) fn place_line(
 }
 
 // The answer for a tree of these facts.
-fn answer_of(alloc: Global, facts: &Facts) -> Result<ProgramOutput, AllocError>
+fn answer_of(alloc: Global, facts: &Facts, question: Question) -> Result<ProgramOutput, AllocError>
     ensures { IfOk result (λ answer. (known : Option (List ℕ))
-        → IsAnswer (Ok facts.now) known answer.status (string_bytes answer.text)) }
+        → IsAnswer question (Ok facts.now) known answer.status (string_bytes answer.text)) }
 {
-    let lines = explain(alloc, facts)?;
-    let verdict = verdict_of(alloc, facts);
+    let lines = explain_by(alloc, facts, question)?;
+    let verdict = verdict_of(alloc, facts, question);
     with_lines(alloc, verdict, lines.as_str())
 }
 
-/// The verdict on a tree of these facts, which were read.
-pub(crate) fn verdict_of(alloc: Global, facts: &Facts) -> Verdict
-    ensures verdict { IsOrMemory result (verdict_of_check (check_of facts.now)) }
-    ensures lines { (place : Option (List ℕ))
-        → lines_after result (Ok facts.now) place ≡ explanation_of facts.now }
-    ensures files { files_in result (Ok facts.now) ≡ Some (length facts.now.files) }
+/// The lines of all that is wrong with a tree of these facts.
+pub(crate) fn explain_by(
+    alloc: Global,
+    facts: &Facts,
+    question: Question,
+) -> Result<String, AllocError>
+    ensures { IfOk result (λ lines. string_bytes lines ≡ lines_by question facts.now) }
 {
-    match check(alloc, facts) {
-        Ok(bag) => Verdict::Valid(bag),
-        Err(fault) => Verdict::Invalid(fault),
+    match question {
+        Question::Validity => explain(alloc, facts),
+        Question::Completeness => explain_gaps(alloc, facts),
     }
 }
 

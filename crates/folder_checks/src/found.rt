@@ -2,18 +2,16 @@
 
 ghost use Rattle.std.specs.Prelude.{◌≡◌, ℕ, List, Ok, Option, None, option_map};
 ghost use Rattle.std.specs.Prelude.{IfOk, IfSome, string_bytes, option_copied};
-ghost use Rattle.bag_explain.specs.Findings.{explanation_of};
-ghost use Rattle.folder_checks.specs.Explanations.{unread_line};
+ghost use Rattle.folder_checks.specs.Explanations.{lines_by, unread_line};
 ghost use Rattle.folder_checks.specs.declared.verdict.Verdict.TheVariants.{Unread};
 ghost use Rattle.folder_checks.specs.Names.{read_of, place_of};
 ghost use Rattle.folder_checks.specs.Json.{IsFound, asked_lines};
 
-use crate::explanation::{place_line, verdict_of};
+use crate::explanation::{explain_by, place_line};
 use crate::measure::{Measure, Measured};
-use crate::report::Report;
-use crate::verdict::Verdict;
+use crate::report::{Detail, Report};
+use crate::verdict::{Verdict, verdict_of};
 use bag_digest::Algorithms;
-use bag_explain::explain;
 use bag_folders::Folders;
 use bag_tree::{Facts, TreeFault};
 use std::alloc::{AllocError, Global};
@@ -86,7 +84,7 @@ fn found_at<F: Folders + Measured>(
 fn prepare(facts: &mut Facts, report: Report)
     ensures { facts.new ≡ facts.old }
 {
-    if report == Report::Explained {
+    if report.detail == Detail::Explained {
         facts.compute_digests(Algorithms::all());
     }
 }
@@ -103,7 +101,7 @@ fn read_found(
 {
     let lines = explained(alloc, facts, report)?;
     Ok(Found {
-        verdict: verdict_of(alloc, facts),
+        verdict: verdict_of(alloc, facts, report.question),
         files: Some(facts.files().len() as u64),
         measure,
         lines,
@@ -113,11 +111,11 @@ fn read_found(
 // The lines of what is wrong, if they are asked for.
 fn explained(alloc: Global, facts: &Facts, report: Report) -> Result<Option<String>, AllocError>
     ensures { IfOk result (λ lines.
-        option_map string_bytes lines ≡ asked_lines report (explanation_of facts.now)) }
+        option_map string_bytes lines ≡ asked_lines report (lines_by report.question facts.now)) }
 {
-    match report {
-        Report::Brief => Ok(None),
-        Report::Explained => Ok(Some(explain(alloc, facts)?)),
+    match report.detail {
+        Detail::Brief => Ok(None),
+        Detail::Explained => Ok(Some(explain_by(alloc, facts, report.question)?)),
     }
 }
 
@@ -133,9 +131,9 @@ fn unread_found(
         × (option_map string_bytes found.lines
         ≡ asked_lines report (unread_line fault (option_copied place.entry)))) }
 {
-    let lines = match report {
-        Report::Brief => None,
-        Report::Explained => Some(place_line(alloc, fault, place)?),
+    let lines = match report.detail {
+        Detail::Brief => None,
+        Detail::Explained => Some(place_line(alloc, fault, place)?),
     };
     Ok(Found {
         verdict: Verdict::Unread(fault),

@@ -49,7 +49,7 @@ fn status_of(verdict: Verdict) -> u8
     ensures { result ≡ (outcome_of_verdict verdict).status }
 {
     match verdict {
-        Verdict::Valid(_) => 0,
+        Verdict::Valid(_) | Verdict::Complete(_) => 0,
         Verdict::Invalid(_) | Verdict::Unread(_) => 1,
     }
 }

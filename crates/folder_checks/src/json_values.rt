@@ -37,23 +37,25 @@ pub(crate) fn escaped_value(alloc: Global, name: &[u8]) -> Result<Value, AllocEr
     Ok(Value::String(text))
 }
 
-/// A verdict's number, or null for a valid bag.
+/// A verdict's number, or null for a valid or complete bag.
 pub(crate) fn code_value(verdict: Verdict) -> Value
     ensures { view result ≡ code_data verdict }
 {
     match verdict {
-        Verdict::Valid(_) => Value::Null,
+        Verdict::Valid(_) | Verdict::Complete(_) => Value::Null,
         Verdict::Invalid(fault) => Value::from(fault.number()),
         Verdict::Unread(fault) => Value::from(fault.number()),
     }
 }
 
-/// A valid bag's identity in hex, else null.
+/// A valid or complete bag's identity in hex, else null.
 pub(crate) fn identity_value(alloc: Global, verdict: Verdict) -> Result<Value, AllocError>
     ensures { IfOk result (λ value. view value ≡ identity_data verdict) }
 {
     match verdict {
-        Verdict::Valid(bag) => Ok(Value::String(hex::encode(alloc, bag.0)?)),
+        Verdict::Valid(bag) | Verdict::Complete(bag) => Ok(Value::String(hex::encode(
+            alloc, bag.0,
+        )?)),
         Verdict::Invalid(_) | Verdict::Unread(_) => Ok(Value::Null),
     }
 }
@@ -64,6 +66,7 @@ pub(crate) fn verdict_value(alloc: Global, verdict: Verdict) -> Result<Value, Al
 {
     let word = match verdict {
         Verdict::Valid(_) => "valid",
+        Verdict::Complete(_) => "complete",
         Verdict::Invalid(_) => "invalid",
         Verdict::Unread(_) => "unread",
     };
@@ -83,7 +86,7 @@ pub(crate) fn words_value(alloc: Global, words: Option<&str>) -> Result<Value, A
 /// What the code of this verdict says, if it has one.
 pub(crate) fn words_of(verdict: Verdict) -> Option<&'static str> {
     let meaning: Option<&'static Meaning> = match verdict {
-        Verdict::Valid(_) => None,
+        Verdict::Valid(_) | Verdict::Complete(_) => None,
         Verdict::Invalid(fault) => invalid(fault.number()),
         Verdict::Unread(fault) => unread(fault.number()),
     };

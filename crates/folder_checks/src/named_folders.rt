@@ -14,7 +14,7 @@ use crate::form::Form;
 use crate::json_line::json_answer;
 use crate::measure::Measured;
 use crate::named::named_bytes;
-use crate::report::{Report, answer_for};
+use crate::report::{Detail, Report, answer_for};
 use crate::several_folders::NamedAnswer;
 use crate::verdict::{Verdict, line_of};
 use bag_folders::Folders;
@@ -180,9 +180,9 @@ fn unlisted(alloc: Global, report: Report) -> Result<ProgramOutput, AllocError>
         (answer.status ≡ outcome.status) × (string_bytes answer.text ≡ outcome.text))) }
 {
     let verdict = Verdict::Unread(TreeFault::Listing);
-    match report {
-        Report::Brief => line_of(alloc, verdict),
-        Report::Explained => {
+    match report.detail {
+        Detail::Brief => line_of(alloc, verdict),
+        Detail::Explained => {
             let line = place_line(alloc, TreeFault::Listing, Some("."))?;
             with_lines(alloc, verdict, line.as_str())
         }

@@ -9,13 +9,29 @@ use bag_folders::Folders;
 use outcomes::ProgramOutput;
 use std::alloc::{AllocError, Global};
 
+/// What is asked of a folder.
+#[derive(Clone, Copy, Debug, PartialEq, Eq)]
+pub enum Question {
+    /// Whether it is a valid bag.
+    Validity,
+    /// Whether it is a complete one, whatever its digests are (RFC 8493, 3).
+    Completeness,
+}
+
 /// How much a report says about a folder.
 #[derive(Clone, Copy, Debug, PartialEq, Eq)]
-pub enum Report {
+pub enum Detail {
     /// The line of its verdict.
     Brief,
     /// Also all that is wrong, or where it can't be read.
     Explained,
+}
+
+/// What a report says about a folder.
+#[derive(Clone, Copy, Debug, PartialEq, Eq)]
+pub struct Report {
+    pub question: Question,
+    pub detail: Detail,
 }
 
 /// The answer for the folder of this path.
@@ -31,11 +47,11 @@ pub(crate) fn answer_for<F: Folders>(
     ensures kept { F.gives folders.new ≡ F.gives folders.old }
     ensures place { F.fails_at folders.new ≡ F.fails_at folders.old }
 {
-    match report {
-        Report::Brief => {
-            let verdict = verdict_on(alloc, folders, path);
+    match report.detail {
+        Detail::Brief => {
+            let verdict = verdict_on(alloc, folders, path, report.question);
             line_of(alloc, verdict)
         }
-        Report::Explained => answer_on(alloc, folders, path),
+        Detail::Explained => answer_on(alloc, folders, path, report.question),
     }
 }

@@ -1,22 +1,22 @@
 //! Folders of the file system, of which it is said which of how many is read.
 
 use crate::measure::{Measure, Measured};
+use crate::read_folders::{Digests, ReadFolders};
 use crate::tally::{TalliedProgress, Tally};
 use bag_check::BagFault;
-use bag_folders::{DiskFolders, Folders};
+use bag_folders::Folders;
 use bag_tree::{Facts, TreeFault};
 use std::alloc::AllocError;
 use std::io::Stderr;
 use std::time::Instant;
 
-type Disk = DiskFolders<HostRuntime, TalliedProgress<HostRuntime, Stderr>>;
+type Disk = ReadFolders<TalliedProgress<HostRuntime, Stderr>>;
 
 /// The folders of the file system, which are read one after the other.
 #[derive(Drop)]
 pub struct TalliedFolders<'a> {
     rt: &'a HostRuntime,
-    /// Whether all digests are wanted, even if a fault shows without them.
-    are_all_wanted: bool,
+    digests: Digests,
     tally: Tally,
     /// What read the last folder, if there was memory for it.
     last: Option<Disk>,
@@ -24,10 +24,10 @@ pub struct TalliedFolders<'a> {
 }
 
 impl<'a> TalliedFolders<'a> {
-    pub fn new(rt: &'a HostRuntime, are_all_wanted: bool, tally: Tally) -> TalliedFolders<'a> {
+    pub fn new(rt: &'a HostRuntime, digests: Digests, tally: Tally) -> TalliedFolders<'a> {
         TalliedFolders {
             rt,
-            are_all_wanted,
+            digests,
             tally,
             last: None,
             measure: Measure::unknown(),
@@ -55,12 +55,7 @@ impl<'a> TalliedFolders<'a> {
     fn next(&self) -> Result<Disk, AllocError> {
         let rt = self.rt;
         let watcher = TalliedProgress::new(rt.alloc(), rt.clone()?, rt.stderr(), self.tally);
-        let folders = DiskFolders::watched(rt.clone()?, watcher);
-        if self.are_all_wanted {
-            Ok(folders.with_all_digests())
-        } else {
-            Ok(folders)
-        }
+        Ok(ReadFolders::new(rt.clone()?, watcher, self.digests))
     }
 }
 

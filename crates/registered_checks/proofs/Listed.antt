@@ -2,7 +2,7 @@
 use Rattle.std.proofs.Common.{◌≡◌, ℕ, List, [], Option, IfSome, Result, Ok, Err}
 use Rattle.std.proofs.Common.{inl, inr, subst}
 use Rattle.std.specs.Prelude.{IsTrue, IfOk}
-use Rattle.folder_checks.specs.declared.report.Report.{Report}
+use Rattle.folder_checks.specs.declared.report.Detail.{Detail}
 use Rattle.known_bags.specs.declared.known_bag.KnownBag.{KnownBag}
 use Rattle.known_bags.specs.declared.sources.SourceFault.{SourceFault}
 use Rattle.known_bags.specs.declared.sources.SourceFault.TheVariants as faults
@@ -32,30 +32,30 @@ agreed_to (Ok it) status source given paths bags is agreed =
 
 -- a check against the bags that a source knows is one against the source
 pub answers_to : {T E : Type 0} (checked : Result T E) (P : T → Outcome → List ℕ → Type 0)
-    (source : List ℕ) (report : Report) (given : Option Given) (place : Option (List ℕ))
+    (source : List ℕ) (detail : Detail) (given : Option Given) (place : Option (List ℕ))
     (paths : List (List ℕ)) (bags : List KnownBag) → IsSourceOf source [] bags (Ok tt)
-    → IfOk checked (λ it. IfSome given (λ gives. ComparesOn report gives place paths bags (P it)))
-    → IfOk checked (λ it. AnswersTo source report given place paths (P it))
-answers_to (Err e) P source report given place paths bags is compares = tt
-answers_to (Ok it) P source report given place paths bags is compares =
+    → IfOk checked (λ it. IfSome given (λ gives. ComparesOn detail gives place paths bags (P it)))
+    → IfOk checked (λ it. AnswersTo source detail given place paths (P it))
+answers_to (Err e) P source detail given place paths bags is compares = tt
+answers_to (Ok it) P source detail given place paths bags is compares =
     inl (
       is.0,
       is.1,
-      subst (λ known. IfSome given (λ gives. ComparesOn report gives place paths known (P it)))
+      subst (λ known. IfSome given (λ gives. ComparesOn detail gives place paths known (P it)))
           is.2 compares,
     )
 
 -- a source knows nothing
-module _ (source : List ℕ) (report : Report) (given : Option Given) (place : Option (List ℕ))
+module _ (source : List ℕ) (detail : Detail) (given : Option Given) (place : Option (List ℕ))
     (paths : List (List ℕ)) (fault : SourceFault) (is : IsNoSource source fault)
     (old new : Option (List ℕ)) where
   pub refused : (status : ℕ) (said : List ℕ)
       → AnswersFault fault (Writes old new status)
-      → said ≡ [] → AnswersTo source report given place paths (Ends old new status said)
+      → said ≡ [] → AnswersTo source detail given place paths (Ends old new status said)
   refused status said (inl writes) none = inr (fault, is, (writes, none))
   refused status said (inr (number, writes)) none = inr (faults.Memory, tt, (writes, none))
 
   pub refused_at : AnswersFault fault (WritesPrefix old new)
-      → AnswersFirst source report given place paths (WritesPrefix old new)
+      → AnswersFirst source detail given place paths (WritesPrefix old new)
   refused_at (inl part) = inr (fault, is, part)
   refused_at (inr (number, part)) = inr (faults.Memory, tt, part)

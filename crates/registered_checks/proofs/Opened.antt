@@ -2,7 +2,7 @@
 use Rattle.std.proofs.Common.{◌≡◌, ℕ, List, [], Option, None, Some, IfSome, Result, Ok, Err}
 use Rattle.std.proofs.Common.{inl, inr, ap}
 use Rattle.std.specs.Prelude.{IfOk, IfErr, IsErrOf}
-use Rattle.folder_checks.specs.declared.report.Report.{Report}
+use Rattle.folder_checks.specs.declared.report.Detail.{Detail}
 use Rattle.known_bags.specs.declared.sources.SourceFault.{SourceFault}
 use Rattle.known_bags.specs.declared.sources.SourceFault.TheVariants.{Unread}
 use Rattle.known_bags.specs.Faults.{AnswersFault}
@@ -73,19 +73,19 @@ module _ {V : Type 0} (items : V → List ℕ) where
   -- a check against a source that was read from a file is one against the file
   pub answers_file : {F E : Type 0} (source : Result V SourceFault) (file : File)
       (folders : Result F E) (gives : F → Option Given) (place : F → Option (List ℕ))
-      (report : Report) (paths : List (List ℕ)) (P Q : Outcome → List ℕ → Type 0)
+      (detail : Detail) (paths : List (List ℕ)) (P Q : Outcome → List ℕ → Type 0)
       → IfOk source (λ v. IfSome file (λ known. known ≡ Some (items v)))
       → IfErr source IsUnread
       → (IsErrOf source Unread → IfSome file (λ known. known ≡ None))
       → ((outcome : Outcome) (words : List ℕ) → P outcome words → Q outcome words)
       → WhereOpened source folders
-      (λ v them. AnswersTo (items v) report (gives them) (place them) paths P)
+      (λ v them. AnswersTo (items v) detail (gives them) (place them) paths P)
       (λ outcome. P outcome [])
-      → AnswersToFile file folders gives place report paths Q
-  answers_file source file folders gives place report paths P Q bytes fault unread so =
+      → AnswersToFile file folders gives place detail paths Q
+  answers_file source file folders gives place detail paths P Q bytes fault unread so =
       read_so source file folders
-      (λ bytes them. AnswersTo bytes report (gives them) (place them) paths P)
-      (λ bytes them. AnswersTo bytes report (gives them) (place them) paths Q)
+      (λ bytes them. AnswersTo bytes detail (gives them) (place them) paths P)
+      (λ bytes them. AnswersTo bytes detail (gives them) (place them) paths Q)
       (λ outcome. P outcome []) (λ outcome. Q outcome []) bytes fault unread
-      (λ bytes them. answers_so P Q so bytes report (gives them) (place them) paths)
+      (λ bytes them. answers_so P Q so bytes detail (gives them) (place them) paths)
       (λ outcome. so outcome [])

@@ -1,7 +1,7 @@
 -- A check against a source, and then what is said.
 use Rattle.std.proofs.Common.{◌≡◌, ℕ, Bool, true, false, List, Option, None, Some, IfSome}
 use Rattle.std.proofs.Common.{inl, inr, sym, ◌∙◌, arith}
-use Rattle.folder_checks.specs.declared.report.Report.{Report}
+use Rattle.folder_checks.specs.declared.report.Detail.{Detail}
 use Rattle.known_bags.specs.declared.known_bag.KnownBag.{KnownBag}
 use Rattle.outcomes.specs.Outcomes.{Outcome}
 use Rattle.registered_checks.specs.Held.{Given, held_of}
@@ -20,23 +20,23 @@ module _ (P Q : Outcome → List ℕ → Type 0)
   compared_so given paths known alone (inl p) = inl (so _ _ p)
   compared_so given paths known alone (inr p) = inr (so _ _ p)
 
-  known_so : (report : Report) (given : Option Given) (place : Option (List ℕ))
+  known_so : (detail : Detail) (given : Option Given) (place : Option (List ℕ))
       (paths : List (List ℕ)) (known : List KnownBag)
-      → IfSome given (λ gives. ComparesOn report gives place paths known P)
-      → IfSome given (λ gives. ComparesOn report gives place paths known Q)
-  known_so report None place paths known compares = tt
-  known_so report (Some gives) place paths known compares =
-      reported_on report (ComparesFor (held_of gives paths) known P)
+      → IfSome given (λ gives. ComparesOn detail gives place paths known P)
+      → IfSome given (λ gives. ComparesOn detail gives place paths known Q)
+  known_so detail None place paths known compares = tt
+  known_so detail (Some gives) place paths known compares =
+      reported_on detail (ComparesFor (held_of gives paths) known P)
       (ComparesFor (held_of gives paths) known Q) (compared_so gives paths known) gives place paths
       compares
 
-  pub answers_so : (source : List ℕ) (report : Report) (given : Option Given)
+  pub answers_so : (source : List ℕ) (detail : Detail) (given : Option Given)
       (place : Option (List ℕ)) (paths : List (List ℕ))
-      → AnswersTo source report given place paths P
-      → AnswersTo source report given place paths Q
-  answers_so source report given place paths (inl (known, knows, compares)) =
-      inl (known, knows, known_so report given place paths known compares)
-  answers_so source report given place paths (inr (fault, is, p)) = inr (fault, is, so _ _ p)
+      → AnswersTo source detail given place paths P
+      → AnswersTo source detail given place paths Q
+  answers_so source detail given place paths (inl (known, knows, compares)) =
+      inl (known, knows, known_so detail given place paths known compares)
+  answers_so source detail given place paths (inr (fault, is, p)) = inr (fault, is, so _ _ p)
 
 -- ---- saying
 

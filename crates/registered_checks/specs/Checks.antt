@@ -4,8 +4,8 @@ use Rattle.std.specs.Prelude.{Bool, ◌&&◌, is_some}
 use Rattle.std.specs.Io.KnownBytes.{Appends}
 use Rattle.std.specs.List.{list_all}
 use Rattle.cell_device.specs.Calls.{one_more}
-use Rattle.folder_checks.specs.declared.report.Report.{Report}
-use Rattle.folder_checks.specs.Reports.{ReportsOn, ReportsFirst}
+use Rattle.folder_checks.specs.declared.report.Detail.{Detail}
+use Rattle.folder_checks.specs.Reports.{validity, ReportsOn, ReportsFirst}
 use Rattle.known_bags.specs.declared.known_bag.KnownBag.{KnownBag}
 use Rattle.outcomes.specs.Outcomes.{Outcome, Writes, no_memory}
 use Rattle.registered_checks.specs.Held.{Given, Held, bag_in, held_of}
@@ -32,18 +32,18 @@ ComparesFor held known P alone =
     P (compared held known alone) (comparison_text held known) ⊎ P (not_compared alone) []
 
 -- the same of a check of these folders
-abbrev pub ComparesOn : Report → Given → Option (List ℕ) → (paths : List (List ℕ)) → List KnownBag
+abbrev pub ComparesOn : Detail → Given → Option (List ℕ) → (paths : List (List ℕ)) → List KnownBag
     → (Outcome → List ℕ → Type 0) → Type 0
-ComparesOn report gives place paths known P =
-    ReportsOn report gives place paths (ComparesFor (held_of gives paths) known P)
+ComparesOn detail gives place paths known P =
+    ReportsOn (validity detail) gives place paths (ComparesFor (held_of gives paths) known P)
 
 -- what was to be written when the output failed: the lines of the first folders, or those of all,
 -- and that memory ran out
-abbrev pub ComparesFirst : Report → Given → Option (List ℕ) → (paths : List (List ℕ))
+abbrev pub ComparesFirst : Detail → Given → Option (List ℕ) → (paths : List (List ℕ))
     → (Outcome → Type 0) → Type 0
-ComparesFirst report gives place paths P =
-    ReportsFirst report gives place paths P
-    ⊎ ReportsOn report gives place paths (λ alone. P (not_compared alone))
+ComparesFirst detail gives place paths P =
+    ReportsFirst (validity detail) gives place paths P
+    ⊎ ReportsOn (validity detail) gives place paths (λ alone. P (not_compared alone))
 
 -- a writer took the whole text of the outcome, the status is its own, and these words are to be
 -- said

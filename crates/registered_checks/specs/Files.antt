@@ -2,7 +2,7 @@
 use Rattle.std.specs.Prelude.{◌≡◌, ℕ, Bool, true, false, List, [], Option, Some, None, IfSome}
 use Rattle.std.specs.Prelude.{Result, Ok, Err}
 use Rattle.std.specs.Io.KnownBytes.{Appends}
-use Rattle.folder_checks.specs.declared.report.Report.{Report}
+use Rattle.folder_checks.specs.declared.report.Detail.{Detail}
 use Rattle.known_bags.specs.declared.sources.SourceFault.{SourceFault}
 use Rattle.known_bags.specs.declared.sources.SourceFault.TheVariants.{Unread}
 use Rattle.known_bags.specs.Sources.{IsUnread}
@@ -31,11 +31,11 @@ WhereRead file folders P Q =
 -- how a check against a file may end, and what is then written and said: as a check against its
 -- bytes; or, if it can't be read, or there is no memory, why, and nothing is said
 abbrev pub AnswersToFile : {F E : Type 0} → File → Result F E → (gives : F → Option Given)
-    → (place : F → Option (List ℕ)) → Report → (paths : List (List ℕ))
+    → (place : F → Option (List ℕ)) → Detail → (paths : List (List ℕ))
     → (Outcome → List ℕ → Type 0) → Type 0
-AnswersToFile file folders gives place report paths P =
+AnswersToFile file folders gives place detail paths P =
     WhereRead file folders
-    (λ bytes them. AnswersTo bytes report (gives them) (place them) paths P)
+    (λ bytes them. AnswersTo bytes detail (gives them) (place them) paths P)
     (λ outcome. P outcome [])
 
 -- These words were said: to the output, if the versions are to be printed, and nothing to the other

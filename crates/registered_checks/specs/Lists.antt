@@ -1,6 +1,6 @@
 -- What a check against a list comes to, or against a cell.
 use Rattle.std.specs.Prelude.{◌⊎◌, ℕ, List, [], Option, IfSome, Result, Ok, Err}
-use Rattle.folder_checks.specs.declared.report.Report.{Report}
+use Rattle.folder_checks.specs.declared.report.Detail.{Detail}
 use Rattle.known_bags.specs.declared.known_bag.KnownBag.{KnownBag}
 use Rattle.known_bags.specs.declared.sources.SourceFault.{SourceFault}
 use Rattle.known_bags.specs.Faults.{fault_outcome, AnswersFault}
@@ -11,19 +11,19 @@ use Rattle.registered_checks.specs.Checks.{ComparesOn, ComparesFirst}
 
 -- how a check against a source of these bytes may end, and what is then written and said: if it
 -- knows bags, as a check against these; if it doesn't, why
-abbrev pub AnswersTo : (source : List ℕ) → Report → Option Given → Option (List ℕ)
+abbrev pub AnswersTo : (source : List ℕ) → Detail → Option Given → Option (List ℕ)
     → (paths : List (List ℕ)) → (Outcome → List ℕ → Type 0) → Type 0
-AnswersTo source report given place paths P =
+AnswersTo source detail given place paths P =
     ((known : List KnownBag) × Knows source known
-    × IfSome given (λ gives. ComparesOn report gives place paths known P))
+    × IfSome given (λ gives. ComparesOn detail gives place paths known P))
     ⊎ ((fault : SourceFault) × IsNoSource source fault × P (fault_outcome fault) [])
 
 -- what was to be written when the output failed
-abbrev pub AnswersFirst : (source : List ℕ) → Report → Option Given → Option (List ℕ)
+abbrev pub AnswersFirst : (source : List ℕ) → Detail → Option Given → Option (List ℕ)
     → (paths : List (List ℕ)) → (Outcome → Type 0) → Type 0
-AnswersFirst source report given place paths P =
+AnswersFirst source detail given place paths P =
     ((known : List KnownBag) × Knows source known
-    × IfSome given (λ gives. ComparesFirst report gives place paths P))
+    × IfSome given (λ gives. ComparesFirst detail gives place paths P))
     ⊎ ((fault : SourceFault) × IsNoSource source fault × P (fault_outcome fault))
 
 -- A source was read, and there are folders: the first of these. Else no folder is checked, and the

@@ -37,7 +37,7 @@ pub fn check_registered_on<
     errors: &mut E,
 ) -> Result<u8, ProgramFault>
     ensures ok { IfOk result (λ status. AnswersToFile (S.bytes_at files.now list.now) folders
-        F.gives F.fails_at task.now.report
+        F.gives F.fails_at task.now.detail
         (map (λ path. path.now) task.now.paths.items)
         (EndsOn task.now.versions (W.contents output.old) (W.contents output.new)
         (W.failures output.old) (W.failures output.new) (E.contents errors.old)
@@ -52,7 +52,7 @@ pub fn check_registered_on<
         (λ outcome. ⊥)) }
     ensures output { IsErrOf result ProgramFault.Output
         → WhereRead (S.bytes_at files.now list.now) folders
-        (λ bytes them. AnswersFirst bytes task.now.report (F.gives them) (F.fails_at them)
+        (λ bytes them. AnswersFirst bytes task.now.detail (F.gives them) (F.fails_at them)
         (map (λ path. path.now) task.now.paths.items)
         (WritesPrefix (W.contents output.old) (W.contents output.new)))
         (WritesPrefix (W.contents output.old) (W.contents output.new)) }
@@ -63,7 +63,7 @@ pub fn check_registered_on<
 {
     let source = files.source_bytes(list);
     let paths = task.paths.as_slice();
-    let answer = check_source_on(alloc, source, folders, paths, task.report, output)?;
+    let answer = check_source_on(alloc, source, folders, paths, task.detail, output)?;
     Ok(say_as_asked(task.versions, &answer, output, errors))
 }
 

@@ -17,7 +17,7 @@ use crate::held_bag::HeldBag;
 use crate::noted_folders::NotedFolders;
 use bag_folders::Folders;
 use counted_writes::{CountedWrite, write_output};
-use folder_checks::{Report, check_all_on};
+use folder_checks::{Detail, Question, Report, check_all_on};
 use known_bags::KnownBag;
 use outcomes::{ProgramFault, ProgramOutput};
 use std::alloc::{AllocError, Global};
@@ -38,12 +38,12 @@ pub fn check_known_on<F: Folders + Drop, W: CountedWrite>(
     alloc: Global,
     folders: F,
     paths: &[&str],
-    report: Report,
+    detail: Detail,
     known: &[KnownBag],
     output: &mut W,
 ) -> Result<Checked<F>, ProgramFault>
     ensures ok { IfOk result (λ checked. IfSome (F.gives folders) (λ gives.
-        ComparesOn report gives (F.fails_at folders) (map (λ path. path.now) paths.now) known.now
+        ComparesOn detail gives (F.fails_at folders) (map (λ path. path.now) paths.now) known.now
         (Ends (W.contents output.old) (W.contents output.new) checked.answer.status
         (string_bytes checked.answer.text)))) }
     // The status 0 means that each folder is a valid bag, and that these are the known bags.
@@ -51,13 +51,17 @@ pub fn check_known_on<F: Folders + Drop, W: CountedWrite>(
         → IfSome (F.gives folders) (λ gives.
         IsTrue (agree gives (map (λ path. path.now) paths.now) known.now))) }
     ensures output { IsErrOf result ProgramFault.Output → IfSome (F.gives folders) (λ gives.
-        ComparesFirst report gives (F.fails_at folders) (map (λ path. path.now) paths.now)
+        ComparesFirst detail gives (F.fails_at folders) (map (λ path. path.now) paths.now)
         (WritesPrefix (W.contents output.old) (W.contents output.new))) }
     ensures kept { IfOk result (λ checked. F.gives checked.folders ≡ F.gives folders) }
     ensures fault { IfErr result (λ fault. fault ≡ ProgramFault.Output) }
     ensures cause { HasCause ProgramFault.Output (W.failures output.old) (W.failures output.new)
         result }
 {
+    let report = Report {
+        question: Question::Validity,
+        detail,
+    };
     let mut folders = NotedFolders::new(alloc, folders);
     let status = check_all_on(alloc, &mut folders, paths, report, output)?;
     let comparison = comparison_of(alloc, &folders, paths, known, status);

@@ -12,7 +12,7 @@ ghost use Rattle.registered_checks.specs.Lists.{AnswersTo, AnswersFirst};
 use crate::known_checks::{Checked, check_known_on};
 use bag_folders::Folders;
 use counted_writes::CountedWrite;
-use folder_checks::Report;
+use folder_checks::Detail;
 use known_bags::{push_known, write_fault};
 use outcomes::{ProgramFault, ProgramOutput};
 use std::alloc::Global;
@@ -25,11 +25,11 @@ pub fn check_list_on<F: Folders + Drop, W: CountedWrite>(
     source: &[u8],
     folders: F,
     paths: &[&str],
-    report: Report,
+    detail: Detail,
     output: &mut W,
 ) -> Result<Checked<F>, ProgramFault>
     ensures ok { IfOk result (λ checked.
-        AnswersTo source.now report (F.gives folders) (F.fails_at folders)
+        AnswersTo source.now detail (F.gives folders) (F.fails_at folders)
         (map (λ path. path.now) paths.now)
         (Ends (W.contents output.old) (W.contents output.new) checked.answer.status
         (string_bytes checked.answer.text))) }
@@ -39,7 +39,7 @@ pub fn check_list_on<F: Folders + Drop, W: CountedWrite>(
         × IfSome (F.gives folders) (λ gives.
         IsTrue (agree gives (map (λ path. path.now) paths.now) known))) }
     ensures output { IsErrOf result ProgramFault.Output
-        → AnswersFirst source.now report (F.gives folders) (F.fails_at folders)
+        → AnswersFirst source.now detail (F.gives folders) (F.fails_at folders)
         (map (λ path. path.now) paths.now)
         (WritesPrefix (W.contents output.old) (W.contents output.new)) }
     ensures kept { IfOk result (λ checked. F.gives checked.folders ≡ F.gives folders) }
@@ -49,7 +49,7 @@ pub fn check_list_on<F: Folders + Drop, W: CountedWrite>(
 {
     let mut known = Vec::new(alloc);
     match push_known(alloc, &mut known, source) {
-        Ok(()) => check_known_on(alloc, folders, paths, report, known.as_slice(), output),
+        Ok(()) => check_known_on(alloc, folders, paths, detail, known.as_slice(), output),
         Err(fault) => {
             let status = write_fault(alloc, output, fault)?;
             let text = String::new(alloc);

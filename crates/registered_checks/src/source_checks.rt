@@ -14,7 +14,7 @@ use crate::list_checks::check_list_on;
 use crate::said_checks::Says;
 use bag_folders::Folders;
 use counted_writes::CountedWrite;
-use folder_checks::Report;
+use folder_checks::Detail;
 use known_bags::{SourceFault, write_fault};
 use outcomes::{ProgramFault, ProgramOutput};
 use std::alloc::{AllocError, Global};
@@ -28,11 +28,11 @@ pub fn check_source_on<F: Folders + Says + Drop, W: CountedWrite>(
     source: Result<Vec<u8>, SourceFault>,
     folders: Result<F, AllocError>,
     paths: &[&str],
-    report: Report,
+    detail: Detail,
     output: &mut W,
 ) -> Result<ProgramOutput, ProgramFault>
     ensures ok { IfOk result (λ answer. WhereOpened source folders
-        (λ bytes them. AnswersTo bytes.items report (F.gives them) (F.fails_at them)
+        (λ bytes them. AnswersTo bytes.items detail (F.gives them) (F.fails_at them)
         (map (λ path. path.now) paths.now)
         (Ends (W.contents output.old) (W.contents output.new) answer.status
         (string_bytes answer.text)))
@@ -46,7 +46,7 @@ pub fn check_source_on<F: Folders + Says + Drop, W: CountedWrite>(
         IsTrue (agree gives (map (λ path. path.now) paths.now) known)))
         (λ outcome. ⊥)) }
     ensures output { IsErrOf result ProgramFault.Output → WhereOpened source folders
-        (λ bytes them. AnswersFirst bytes.items report (F.gives them) (F.fails_at them)
+        (λ bytes them. AnswersFirst bytes.items detail (F.gives them) (F.fails_at them)
         (map (λ path. path.now) paths.now)
         (WritesPrefix (W.contents output.old) (W.contents output.new)))
         (WritesPrefix (W.contents output.old) (W.contents output.new)) }
@@ -58,7 +58,7 @@ pub fn check_source_on<F: Folders + Says + Drop, W: CountedWrite>(
         Ok(bytes) => match folders {
             Ok(folders) => {
                 let source = bytes.as_slice();
-                let mut checked = check_list_on(alloc, source, folders, paths, report, output)?;
+                let mut checked = check_list_on(alloc, source, folders, paths, detail, output)?;
                 checked.folders.say();
                 Ok(checked.answer)
             }

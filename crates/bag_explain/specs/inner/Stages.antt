@@ -1,5 +1,5 @@
 -- The parts of an explanation as they are written, for the contracts of private functions.
-use Rattle.std.specs.Prelude.{ℕ, Bool, List, [], ◌∷◌}
+use Rattle.std.specs.Prelude.{ℕ, Bool, List, [], ◌∷◌, ◌++◌}
 use Rattle.std.specs.List.{flat_map}
 use Rattle.bag_tree.specs.Facts.{FileFact, TreeFacts}
 use Rattle.bag_check.specs.declared.fault.BagFault.{BagFault}
@@ -64,18 +64,28 @@ abbrev pub printed_faults : TreeFacts → List BagFault → List ℕ
 printed_faults facts faults =
     flat_map (λ fault. printed_places fault (places_of fault facts)) faults
 
--- the faults for which no manifest is read, and those of what manifests list
+-- the faults for which no manifest is read; those of what manifests list, but for wrong digests; and
+-- all of these
 abbrev pub first_faults : List BagFault
 first_faults =
     NoDeclaration ∷ BadDeclaration ∷ UnsupportedVersion ∷ UnsupportedEncoding ∷ HasFetch
     ∷ NoPayloadFolder ∷ NoSha512Manifest ∷ UnknownAlgorithm ∷ []
 
-abbrev pub listing_faults : List ListingFault
-listing_faults =
+abbrev pub listing_gaps : List ListingFault
+listing_gaps =
     listings.Malformed ∷ listings.OfEntry Astray ∷ listings.Repeated ∷ listings.OfEntry Missing
-    ∷ listings.Unlisted ∷ listings.OfEntry Wrong ∷ []
+    ∷ listings.Unlisted ∷ []
 
--- the lines of all faults of what manifests list
+abbrev pub listing_faults : List ListingFault
+listing_faults = listing_gaps ++ listings.OfEntry Wrong ∷ []
+
+-- the lines of these faults of what manifests list
+abbrev pub printed_listed : List ListingFault → List FileFact → List NumberedListing → List ℕ
+printed_listed faults files found = flat_map (λ fault. printed_in fault files found) faults
+
+-- the lines of all of them, and of all but wrong digests
 abbrev pub printed_listings : List FileFact → List NumberedListing → List ℕ
-printed_listings files found =
-    flat_map (λ fault. printed_in fault files found) listing_faults
+printed_listings = printed_listed listing_faults
+
+abbrev pub printed_gaps : List FileFact → List NumberedListing → List ℕ
+printed_gaps = printed_listed listing_gaps

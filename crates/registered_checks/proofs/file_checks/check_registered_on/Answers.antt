@@ -14,7 +14,7 @@ returns-clause-ok g c =
     let read = c.source_bytes-source.ensures in
     answers_file {V = Vec ℕ Global} (λ bytes. bytes.items) c.source_bytes-source.result
     (g.S.SourceFiles.bytes_at c.args.files.now c.args.list.now) c.args.folders
-    g.F.Folders.gives g.F.Folders.fails_at task.report
+    g.F.Folders.gives g.F.Folders.fails_at task.detail
     (map (λ path. path.now) task.paths.items)
     (Ends (contents c.args.output.now) (contents c.check_source_on.new.output) answer.status
     (string_bytes answer.text))

@@ -5,7 +5,7 @@ use Rattle.registered_checks.proofs.known_checks.check_known_on.Goals as goal
 
 pub returns-in_err-answer-clause-output : goal.returns-in_err-answer-clause-output
 returns-in_err-answer-clause-output g c =
-    λ is. stopped_on c.args.report (g.F.Folders.fails_at c.args.folders)
+    λ is. stopped_on c.args.detail (g.F.Folders.fails_at c.args.folders)
     (map (λ path. path.now) c.args.paths.now) (g.W.CountedWrite.contents c.args.output.now)
     (g.W.CountedWrite.contents c.check_all_on.new.output)
     (g.W.CountedWrite.contents c.answer_or_memory.new.output) c.in_ok-status.status
@@ -14,7 +14,7 @@ returns-in_err-answer-clause-output g c =
 
 pub returns-clause-ok : goal.returns-clause-ok
 returns-clause-ok g c =
-    compared_on c.args.report (g.F.Folders.fails_at c.args.folders)
+    compared_on c.args.detail (g.F.Folders.fails_at c.args.folders)
     (map (λ path. path.now) c.args.paths.now) (g.W.CountedWrite.contents c.args.output.now)
     (g.W.CountedWrite.contents c.check_all_on.new.output)
     (g.W.CountedWrite.contents c.answer_or_memory.new.output) c.in_ok-status.status c.args.known.now
@@ -26,7 +26,7 @@ returns-clause-ok g c =
 
 pub returns-clause-zero : goal.returns-clause-zero
 returns-clause-zero g c =
-    λ zero. agreed c.args.report (g.F.Folders.fails_at c.args.folders)
+    λ zero. agreed c.args.detail (g.F.Folders.fails_at c.args.folders)
     (map (λ path. path.now) c.args.paths.now) c.args.known.now
     (g.W.CountedWrite.contents c.args.output.now)
     (g.W.CountedWrite.contents c.answer_or_memory.new.output)

@@ -9,7 +9,7 @@ returns-in-Ok-clause-ok g c =
     answers_to c.check_known_on.result
     (λ checked. Ends (g.W.CountedWrite.contents c.args.output.now)
     (g.W.CountedWrite.contents c.check_known_on.new.output) checked.answer.status
-    (string_bytes checked.answer.text)) c.args.source.now c.args.report
+    (string_bytes checked.answer.text)) c.args.source.now c.args.detail
     (g.F.Folders.gives c.args.folders) (g.F.Folders.fails_at c.args.folders)
     (map (λ path. path.now) c.args.paths.now) c.as_slice.result.now (
       found.0,
@@ -32,14 +32,14 @@ returns-in-Ok-clause-zero g c =
 
 pub returns-in_err-status-in-Err-clause-output : goal.returns-in_err-status-in-Err-clause-output
 returns-in_err-status-in-Err-clause-output g c =
-    λ is. refused_at c.args.source.now c.args.report (g.F.Folders.gives c.args.folders)
+    λ is. refused_at c.args.source.now c.args.detail (g.F.Folders.gives c.args.folders)
     (g.F.Folders.fails_at c.args.folders) (map (λ path. path.now) c.args.paths.now)
     c.in-Err.fault c.in-Err.ensures.known (g.W.CountedWrite.contents c.args.output.now)
     (g.W.CountedWrite.contents c.write_fault.new.output) c.in_err-status-in-Err.ensures.output
 
 pub returns-clause-ok : goal.returns-clause-ok
 returns-clause-ok g c =
-    refused c.args.source.now c.args.report (g.F.Folders.gives c.args.folders)
+    refused c.args.source.now c.args.detail (g.F.Folders.gives c.args.folders)
     (g.F.Folders.fails_at c.args.folders) (map (λ path. path.now) c.args.paths.now)
     c.in-Err.fault c.in-Err.ensures.known (g.W.CountedWrite.contents c.args.output.now)
     (g.W.CountedWrite.contents c.write_fault.new.output) c.in_ok-status-in-Err.status
