@@ -78,6 +78,7 @@ fn refuse(rt: &HostRuntime, task: &AuditTask<'_>, stop: Stop) -> Result<u8, Prog
         key: None,
         site: 0,
         cell: None,
+        listens: false,
         bags: None,
         path: None,
         wait: 0,

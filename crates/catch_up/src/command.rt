@@ -45,6 +45,7 @@ fn refuse(rt: &HostRuntime, task: &CatchUpTask<'_>, stop: Stop) -> Result<u8, Pr
         key: task.key,
         site: task.to.number(),
         cell: None,
+        listens: false,
         bags: None,
         path: None,
         wait: task.wait,

@@ -2,3 +2,4 @@ pub mod Lists
 pub mod Asking
 pub mod Windows
 pub mod Reports
+pub mod Examples

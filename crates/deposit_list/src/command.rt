@@ -88,6 +88,7 @@ fn refuse(rt: &HostRuntime, task: &DepositsTask<'_>, stop: Stop) -> Result<u8, P
         key: task.key,
         site: task.to.number(),
         cell: None,
+        listens: false,
         bags: None,
         path: None,
         wait: task.wait,

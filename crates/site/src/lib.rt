@@ -12,7 +12,7 @@
 //!
 //! ```
 //! match Site::open(alloc, cell, Owner { members, site }) {
-//!     Ok(mut site) => serve_as(alloc, &mut site, port, folders, service, output),
+//!     Ok(site) => serve_as(alloc, site, port, folders, service, output),
 //!     Err((_, fault)) => write_numbered(output, open_line(alloc, fault)),
 //! }
 //! ```

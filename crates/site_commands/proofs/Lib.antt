@@ -3,3 +3,4 @@ pub mod Written
 pub mod Repeated
 pub mod BegunCells
 pub mod Servings
+pub mod FirstStartExamples

@@ -36,6 +36,7 @@ fn output_of<'a>(
         key: task.key,
         site: task.to.number(),
         cell: None,
+        listens: false,
         bags: None,
         path: task.path,
         wait: task.wait,

@@ -102,6 +102,7 @@ fn asked<'a>(task: &MembersTask<'a>) -> Asked<'a> {
         key: task.key.or(task.new_key),
         site: 1,
         cell: None,
+        listens: false,
         bags: None,
         path: None,
         wait: 0,

@@ -124,6 +124,7 @@ fn output_of<'a, 'l, 's>(
         key: task.key,
         site: task.number.number(),
         cell: Some(task.cell),
+        listens: task.listen.is_some(),
         bags: task.bags,
         path: None,
         wait: task.waits.first,

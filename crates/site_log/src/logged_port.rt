@@ -2,7 +2,7 @@
 
 use crate::site_log::SiteLog;
 use addresses::Address;
-use udp_site::{Port, PortFault, Turn};
+use udp_site::{Counts, Port, PortFault, Turn};
 
 /// A port that tells the log what came. Otherwise it delegates to it.
 #[derive(Drop)]
@@ -48,5 +48,13 @@ impl<P: Port> Port for LoggedPort<'_, P> {
 
     fn awaits_turns(&mut self, deposits: u32) {
         self.port.awaits_turns(deposits);
+    }
+
+    fn wants_counts(&mut self) -> bool {
+        self.port.wants_counts()
+    }
+
+    fn notes_counts(&mut self, counts: Counts) {
+        self.port.notes_counts(counts);
     }
 }

@@ -2,7 +2,7 @@
 
 use crate::watch::Watch;
 use addresses::Address;
-use udp_site::{Port, PortFault, Turn};
+use udp_site::{Counts, Port, PortFault, Turn};
 
 /// A port that tells a watch what came and what was handed out. Otherwise it delegates to it.
 #[derive(Drop)]
@@ -49,5 +49,13 @@ impl<P: Port> Port for WatchedPort<'_, P> {
 
     fn awaits_turns(&mut self, deposits: u32) {
         self.port.awaits_turns(deposits);
+    }
+
+    fn wants_counts(&mut self) -> bool {
+        self.port.wants_counts()
+    }
+
+    fn notes_counts(&mut self, counts: Counts) {
+        self.port.notes_counts(counts);
     }
 }

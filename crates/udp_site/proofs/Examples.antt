@@ -205,10 +205,29 @@ a_deposit_ends_no_proposal = refl
 pub voted : left (hears proposed_at_once Decides) 9000 9000 ≡ 0
 voted = refl
 
--- what a site hands out beside these says nothing: promises, votes, refusals, questions, known bags
-pub handed_out_is_nothing : map (λ kind. hands proposed_at_once own other (start kind))
+-- What a site hands out beside these says nothing: promises, votes, refusals, questions, known bags
+-- and a client's requests. Their bodies don't matter. Here they begin with a 1: in the reply to a
+-- query that says that the bag is pending.
+pub handed_out_is_nothing : map (λ kind. hands proposed_at_once own other (says kind 1))
     (2 ∷ 4 ∷ 5 ∷ 6 ∷ 7 ∷ 16 ∷ 17 ∷ []) ≡ replicate 7 proposed_at_once
 handed_out_is_nothing = refl
+
+-- or with a 0: in the reply to a deposit that says that it is registered
+pub nor_with_a_zero : map (λ kind. hands proposed_at_once own other (says kind 0))
+    (2 ∷ 4 ∷ 5 ∷ 6 ∷ 7 ∷ 16 ∷ 17 ∷ []) ≡ replicate 7 proposed_at_once
+nor_with_a_zero = refl
+
+-- or those that end before their bodies
+pub nor_without_a_body : map (λ kind. hands proposed_at_once own other (start kind))
+    (2 ∷ 4 ∷ 5 ∷ 6 ∷ 7 ∷ 16 ∷ 17 ∷ []) ≡ replicate 7 proposed_at_once
+nor_without_a_body = refl
+
+-- Each reply says its own: a 1 in that to a deposit is no question, and a 0 in that to a query
+-- registers nothing.
+pub each_reply_its_own :
+    hands proposed_at_once own 40000 (deposit_reply 1) ∷ hands proposed_at_once own 40000 (reply 0)
+    ∷ [] ≡ replicate 2 proposed_at_once
+each_reply_its_own = refl
 
 -- A site that has proposed at the moment 0, and waits for a minute.
 abbrev alone : Pace

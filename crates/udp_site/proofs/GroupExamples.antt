@@ -7,7 +7,7 @@ use Rattle.udp_site.specs.declared.pace.Pace.{Pace}
 use Rattle.udp_site.specs.declared.sign.Sign.TheVariants.{Decides}
 use Rattle.udp_site.specs.Contacts.{nobody_heard}
 use Rattle.udp_site.specs.Pace.{begins, idles, hears, listens, registers, awaits_turns, proposes}
-use Rattle.udp_site.specs.Pace.{left}
+use Rattle.udp_site.specs.Pace.{left, alone_for}
 
 -- it has heard nobody; and it has heard site 3
 abbrev cut_off : Pace
@@ -71,6 +71,25 @@ then_they_are_late = refl
 pub one_after_them : (proposes (idles together 300)).under_way ≡ 1
 unfolding idle with_voter sites_to is_in
 one_after_them = refl
+
+-- So does one that is handed out behind a `registered`: that comes of the same batch, and of a turn
+-- after which one was idle.
+pub registered_before_it : (proposes (registers (idles together 300))).answer_wait ≡ 2
+unfolding idle with_voter sites_to is_in
+registered_before_it = refl
+
+pub one_behind_registered : (proposes (registers (idles together 300))).under_way ≡ 1
+unfolding idle with_voter sites_to is_in
+one_behind_registered = refl
+
+-- A recovery of a later batch isn't made together with them either.
+pub one_of_a_later_batch : (proposes (awaits_turns together 0)).under_way ≡ 1
+unfolding idle with_voter sites_to is_in
+one_of_a_later_batch = refl
+
+pub waits_longer_for_it : left (proposes (awaits_turns together 0)) 200 200 ≡ 4000
+unfolding idle with_voter sites_to is_in
+waits_longer_for_it = refl
 
 -- no more are counted than it makes together
 pub no_more_are_counted : (proposes (record together { under_way = 32 })).under_way ≡ 32
@@ -141,3 +160,24 @@ pub prompt_turns_do_not : (idles (registers (idles (registers connected) 600000)
     ≡ 4
 unfolding with_voter sites_to is_in
 prompt_turns_do_not = refl
+
+-- ---- for how long it has heard no quorum
+
+-- it hears site 3, whom it heard within ten seconds
+pub none_now : alone_for (idles connected 300) 9999999 ≡ 0
+unfolding with_voter sites_to is_in
+none_now = refl
+
+-- since its last idle turn in which it heard one
+pub since_then : alone_for (idles (idles connected 5000000) 25000000) 26000000 ≡ 21000
+unfolding with_voter sites_to is_in
+since_then = refl
+
+-- it has heard nobody since it began
+pub since_it_began : alone_for (idles cut_off 5000000) 26000999 ≡ 26000
+unfolding with_voter sites_to is_in
+since_it_began = refl
+
+pub at_once : alone_for cut_off 10 ≡ 1
+unfolding with_voter sites_to is_in
+at_once = refl

@@ -5,7 +5,7 @@ use Rattle.fed_types.specs.Lists.{is_in}
 use Rattle.fed_types.specs.Sites.{membership_of, sites_to}
 use Rattle.fed_types.specs.Voters.{with_voter}
 use Rattle.udp_site.specs.declared.pace.Pace.{Pace}
-use Rattle.udp_site.specs.declared.sign.Sign.TheVariants.{Still, Decides}
+use Rattle.udp_site.specs.declared.sign.Sign.TheVariants.{Still, Moves, Decides}
 use Rattle.udp_site.specs.declared.sign.Signal.{Signal}
 use Rattle.udp_site.specs.Contacts.{nobody_heard}
 use Rattle.udp_site.specs.Pace.{begins, idles, hears, takes, proposes, registers, hands, wait_at}
@@ -129,6 +129,17 @@ two_of_five = refl
 pub nobody_is_heard : wait_at five 30000000 ≡ 3200
 unfolding with_voter sites_to is_in
 nobody_is_heard = refl
+
+-- So it does where answers would take longer: late ones don't make its wait longer then. Something
+-- has moved, and brought back its first wait.
+pub nobody_is_heard_and_something_moves : wait_at (hears five Moves) 30000000 ≡ 100
+unfolding with_voter sites_to is_in
+nobody_is_heard_and_something_moves = refl
+
+-- while a quorum is heard they do
+pub a_quorum_is_heard_and_something_moves : wait_at (hears five Moves) 9000000 ≡ 1600
+unfolding with_voter sites_to is_in
+a_quorum_is_heard_and_something_moves = refl
 
 -- Promises of a quorum and a deposit bring back the first wait, but it waits for answers as before:
 -- for votes, too. These bring back the first wait for answers, and are none that were late.

@@ -9,6 +9,7 @@ pub mod Requested
 pub mod WaitingDeposits
 pub mod Search
 pub mod Settled
+pub mod Counted
 pub mod KeptRecords
 pub mod Waited
 pub mod Growth
@@ -26,6 +27,7 @@ pub mod GroupExamples
 pub mod RoundExamples
 pub mod RecoveryExamples
 pub mod SignExamples
+pub mod StatusExamples
 pub mod Signs
 pub mod WaitingTurns
 pub mod BatchOfTurns

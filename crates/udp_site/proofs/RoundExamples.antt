@@ -16,6 +16,7 @@ use Rattle.site.specs.declared.fault.SiteFault.TheVariants as faults
 use Rattle.site.specs.Calls.{Input}
 use Rattle.site_tables.specs.Contents.{deposits_of}
 use Rattle.udp_site.specs.Rounds.{next_waiting}
+use Rattle.udp_site.specs.Status.{waiting_before, counts_of}
 use Rattle.udp_site.specs.Turns.{Serving, Done, idles, proposes_next, proposes, tries}
 use Rattle.udp_site.specs.Turns.{begins, others}
 use Rattle.udp_site.specs.Turns.{proposal_notices, recovery_notices}
@@ -51,6 +52,16 @@ the_last = refl
 pub and_the_first_again : next_waiting deposits 3 ≡ Some 0
 unfolding next_waiting deposits_of same_slot known_of
 and_the_first_again = refl
+
+-- what the site counts: all records, no bag that is known, three deposits that wait; and then one
+-- bag that is known, and two
+pub three_wait : counts_of deposits ≡ record { records = 4; known = 0; pending = 3 }
+unfolding waiting_before deposits_of same_slot known_of
+three_wait = refl
+
+pub two_wait : counts_of first_known ≡ record { records = 5; known = 1; pending = 2 }
+unfolding waiting_before deposits_of same_slot known_of
+two_wait = refl
 
 -- not one whose bag is known
 pub known_is_left_out : next_waiting first_known 0 ≡ Some 1

@@ -12,6 +12,7 @@ pub mod Contacts
 pub mod Pace
 pub mod Signs
 pub mod Recoveries
+pub mod Status
 pub mod Seals
 pub mod Origins
 pub mod UdpPorts

@@ -1,5 +1,5 @@
 -- How long a port waits. Waits are milliseconds, and moments are microseconds of its clock.
-use Rattle.std.specs.Prelude.{ℕ, ◌+◌, ◌-◌, ◌*◌, ◌==◌, ◌||◌, ◌&&◌, nat_lt, Bool, true, false, not}
+use Rattle.std.specs.Prelude.{ℕ, ◌+◌, ◌-◌, ◌*◌, ◌/◌, ◌==◌, ◌||◌, ◌&&◌, nat_lt, Bool, true, false, not}
 use Rattle.std.specs.Prelude.{min, max, if◌then◌else◌, List, Option, Some, None}
 use Rattle.udp_site.specs.declared.contacts.Contacts.{Contacts}
 use Rattle.udp_site.specs.declared.waits.Waits.{Waits}
@@ -20,10 +20,12 @@ begins waits contacts = record {
   idle_at = 0;
   round_at = 0;
   under_way = 0;
+  together = false;
   prompt = 0;
   due = waits.prompt;
   asked = 0;
   proposed_at = 0;
+  connected_at = 0;
   contacts = contacts;
 }
 
@@ -77,6 +79,8 @@ idles pace now = record pace {
   wait =
       if pace.due == 0 && not (is_prompt pace now) then longer pace pace.wait else pace.wait;
   idle_at = now;
+  connected_at = if hears_quorum pace.contacts now then now else pace.connected_at;
+  together = false;
   round_at = if is_prompt pace now && not (goes_round pace now) then pace.round_at else now;
   prompt = prompt_after pace now;
   due = pace.due - 1;
@@ -133,12 +137,13 @@ awaiting (Some contacts) = Some (awaits contacts)
 
 -- The site proposes, in its last idle turn, or recovers, since then. After each of these it waits
 -- twice as long; for answers it does so where those to the one before were late. One is under way
--- now, and no question is open.
+-- now, and no question is open. What is handed out next is made together with it.
 abbrev pub proposes_first : Pace → Pace
 proposes_first pace = record pace {
   wait = longer pace pace.wait;
   answer_wait = if answers_late pace then longer pace pace.answer_wait else pace.answer_wait;
   under_way = 1;
+  together = true;
   due = pace.waits.prompt;
   asked = 0;
   proposed_at = pace.idle_at;
@@ -149,10 +154,10 @@ proposes_first pace = record pace {
 abbrev pub proposes_more : Pace → Pace
 proposes_more pace = record pace { under_way = min (pace.under_way + 1) most_together }
 
--- The proposals of a batch are handed out together: no turn is idle between them.
+-- The proposals of a batch are handed out together: no turn is idle between them, and no batch ends.
 abbrev pub proposes : Pace → Pace
 proposes pace =
-    if pace.due == pace.waits.prompt && not (pace.under_way == 0)
+    if pace.together && not (pace.under_way == 0)
     then proposes_more pace else proposes_first pace
 
 -- A deposit is registered. It waits for its first wait again, though answers may be late as before;
@@ -165,10 +170,11 @@ registers pace = record pace {
   due = pace.waits.prompt;
 }
 
--- So many of a site's deposits wait, as far as they are known, that weren't proposed in this round:
--- the turns that it needs for these are prompt, and no others are.
+-- A batch ends. So many of the site's deposits wait, as far as they are known, that weren't proposed
+-- in this round: the turns that it needs for these are prompt, and no others are.
 abbrev pub awaits_turns : Pace → (deposits : ℕ) → Pace
 awaits_turns pace deposits = record pace {
+  together = false;
   prompt = min (min deposits most_together * pace.waits.prompt) most_prompt;
 }
 
@@ -219,3 +225,9 @@ at_most pace now =
 -- for how many microseconds a turn that began then waits still; with 0 it is idle
 abbrev pub left : Pace → (began now : ℕ) → ℕ
 left pace began now = min (1000 * wait_at pace now - (now - began)) (at_most pace now)
+
+-- For how many milliseconds the site has heard no quorum, by its idle turns: since the last one in
+-- which it heard one, or since it began. While it hears one there are none.
+abbrev pub alone_for : Pace → (now : ℕ) → ℕ
+alone_for pace now =
+    if hears_quorum pace.contacts now then 0 else max 1 ((now - pace.connected_at) / 1000)

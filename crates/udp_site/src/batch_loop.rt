@@ -22,6 +22,7 @@ ghost use Rattle.udp_site.specs.inner.Servers.{Keeps, Stands};
 ghost use Rattle.udp_site.specs.inner.SlotRecords.{AreSettled};
 
 use crate::batch_intake::take_in;
+use crate::counts::tell_counts;
 use crate::deposits::reply_to_deposit;
 use crate::fault::ServeFault;
 use crate::held_port::HeldPort;
@@ -186,6 +187,7 @@ impl<F: Folders> Server<'_, '_, '_, '_, '_, Waiting, HeldPort, F> {
             Ok(synced) => {
                 let untried = self.untried();
                 self.port.release(synced, port, &marks, untried)?;
+                tell_counts(self.site, port);
                 write_lines(self.alloc, self.lines, output)
             }
             Err(CommitFault::Memory) => Err(ServeFault::Memory),

@@ -42,6 +42,13 @@ impl Contacts {
         }
     }
 
+    /// The federation, and the site itself.
+    pub(crate) fn own(&self) -> (u64, SiteNo)
+        ensures { result ≡ (self.now.members.federation, self.now.own) }
+    {
+        (self.members.federation(), self.own)
+    }
+
     /// A site is heard.
     pub(crate) fn notes(&mut self, now: u64, site: SiteNo)
         ensures { self.new ≡ notes self.old now site }

@@ -9,6 +9,7 @@ ghost use Rattle.udp_site.specs.inner.Servers.{Comes, ComesOfTurn, Keeps, Stays}
 ghost use Rattle.udp_site.specs.inner.SlotRecords.{says_known, is_settled, AreSettled, IsFirst};
 
 use crate::fault::ServeFault;
+use crate::pace::MOST_TOGETHER;
 use crate::port::Port;
 use crate::said_lines::push_proposal;
 use crate::sends::send_answer;
@@ -18,9 +19,6 @@ use cell_device::Cell;
 use fed_types::Slot;
 use records::{Entry, Record};
 use site::{Reply, Site};
-
-/// How many deposits are counted that wait for their first proposal.
-const MOST_UNTRIED: u32 = 32;
 
 /// How far the idle turns have come.
 #[derive(Drop)]
@@ -62,13 +60,13 @@ impl<C: Cell, P: Port, F: Folders> Server<'_, '_, '_, '_, '_, C, P, F> {
     /// as a port counts.
     pub(crate) fn untried(&self) -> u32 {
         let mut from = self.progress.tried.max(self.progress.settled);
-        for count in 0..MOST_UNTRIED {
+        for count in 0..MOST_TOGETHER {
             let Some(place) = first_waiting(self.site, from) else {
                 return count;
             };
             from = place + 1;
         }
-        MOST_UNTRIED
+        MOST_TOGETHER
     }
 
     // Proposes the slot's deposit.
@@ -134,7 +132,7 @@ fn is_settled<C: Cell>(site: &Site<C>, place: usize) -> bool
     }
 }
 
-fn is_known<C: Cell>(site: &Site<C>, slot: &Slot) -> bool
+pub(crate) fn is_known<C: Cell>(site: &Site<C>, slot: &Slot) -> bool
     ensures { result ≡ is_some (known_of slot.now site.now.book.records) }
 {
     match site.query(slot) {

@@ -6,7 +6,7 @@ ghost use Rattle.udp_site.specs.Pace.{begins, longer, idles, hears, meets, liste
 ghost use Rattle.udp_site.specs.Pace.{answers_late, proposes, proposes_first, proposes_more};
 ghost use Rattle.udp_site.specs.Pace.{registers, awaits_turns, hands, hears_quorum, is_prompt};
 ghost use Rattle.udp_site.specs.Pace.{goes_round, most_prompt};
-ghost use Rattle.udp_site.specs.Pace.{wait_at, between, pause, pause_left, at_most, left};
+ghost use Rattle.udp_site.specs.Pace.{wait_at, between, pause, pause_left, at_most, left, alone_for};
 ghost use Rattle.udp_site.specs.Signs.{signal_at};
 
 use crate::contacts::Contacts;
@@ -34,7 +34,7 @@ const SECOND: u32 = 1000;
 const MOST_PROMPT: u32 = 1000;
 
 /// How many proposals a site makes at most without waiting for votes.
-const MOST_TOGETHER: u32 = 32;
+pub(crate) const MOST_TOGETHER: u32 = 32;
 
 const MICROS: u64 = 1000;
 
@@ -52,6 +52,8 @@ pub(crate) struct Pace {
     pub(crate) round_at: u64,
     /// How many proposals the site made together, less a vote or a known bag for each.
     pub(crate) under_way: u32,
+    /// Whether it proposed since its last turn was idle and the last batch ended.
+    pub(crate) together: bool,
     /// How many turns are idle at once where no proposal is under way, since deposits wait that
     /// weren't proposed.
     pub(crate) prompt: u32,
@@ -62,6 +64,8 @@ pub(crate) struct Pace {
     pub(crate) asked: u32,
     /// When the turn was idle in which the site proposed last, or after which it recovered last.
     pub(crate) proposed_at: u64,
+    /// When a turn was idle last in which a quorum was heard.
+    pub(crate) connected_at: u64,
     /// Whom a site has heard; a client notes that of nobody.
     pub(crate) contacts: Option<Contacts>,
 }
@@ -78,10 +82,12 @@ impl Pace {
             idle_at: 0,
             round_at: 0,
             under_way: 0,
+            together: false,
             prompt: 0,
             due: waits.prompt,
             asked: 0,
             proposed_at: 0,
+            connected_at: 0,
             contacts,
         }
     }
@@ -103,7 +109,11 @@ impl Pace {
         if self.due == 0 && !is_prompt {
             self.wait = self.longer(self.wait);
         }
+        if self.hears_quorum(now) {
+            self.connected_at = now;
+        }
         self.idle_at = now;
+        self.together = false;
         self.prompt = prompt.saturating_sub(1);
         self.due = self.due.saturating_sub(1);
         self.asked = self.asked.saturating_sub(1);
@@ -242,10 +252,12 @@ impl Pace {
             .min(MOST_PROMPT)
     }
 
-    /// So many of its deposits wait that weren't proposed in this round, as far as that is known.
+    /// A batch ends. So many deposits wait that weren't proposed in this round, as far as that is
+    /// known.
     pub(crate) fn awaits_turns(&mut self, deposits: u32)
         ensures { self.new ≡ awaits_turns self.old deposits }
     {
+        self.together = false;
         let deposits = deposits.min(MOST_TOGETHER);
         self.prompt = deposits.saturating_mul(self.waits.prompt).min(MOST_PROMPT);
     }
@@ -254,7 +266,7 @@ impl Pace {
     fn proposes(&mut self)
         ensures { self.new ≡ proposes self.old }
     {
-        if self.due == self.waits.prompt && self.under_way != 0 {
+        if self.together && self.under_way != 0 {
             self.proposes_more();
         } else {
             self.proposes_first();
@@ -268,7 +280,7 @@ impl Pace {
         self.under_way = self.under_way.saturating_add(1).min(MOST_TOGETHER);
     }
 
-    // It proposes after an idle turn, or where nothing is under way.
+    // It proposes apart from what is under way, if anything is.
     fn proposes_first(&mut self)
         ensures { self.new ≡ proposes_first self.old }
     {
@@ -277,6 +289,7 @@ impl Pace {
         }
         self.wait = self.longer(self.wait);
         self.under_way = 1;
+        self.together = true;
         self.due = self.waits.prompt;
         self.asked = 0;
         self.proposed_at = self.idle_at;
@@ -331,6 +344,16 @@ impl Pace {
     {
         let millis = u64::from(SECOND.max(self.answer_wait));
         MICROS * millis
+    }
+
+    /// For how many milliseconds the site has heard no quorum.
+    pub(crate) fn alone_for(&self, now: u64) -> u64
+        ensures { result ≡ alone_for self.now now }
+    {
+        if self.hears_quorum(now) {
+            return 0;
+        }
+        (now.saturating_sub(self.connected_at) / MICROS).max(1)
     }
 
     // The most milliseconds between two idle turns.

@@ -1,10 +1,11 @@
 //! A socket, and how long it is waited at.
 
-ghost use Rattle.std.specs.Prelude.{◌≡◌, ◌≤◌, ℕ, length, false, IfOk, IfSome};
+ghost use Rattle.std.specs.Prelude.{◌≡◌, ◌≤◌, ◌||◌, ℕ, length, false, IfOk, IfSome};
 ghost use Rattle.dgram.specs.Decoded.{message_of};
 ghost use Rattle.udp_site.specs.Pace.{begins, idles, takes, hands, awaits_turns, pause};
 ghost use Rattle.udp_site.specs.Recoveries.{none_handed_on, is_early, hands_on};
 ghost use Rattle.udp_site.specs.Signs.{signal_at};
+ghost use Rattle.udp_site.specs.Status.{asks_status};
 ghost use Rattle.udp_site.specs.inner.Paced.{EndsWait};
 
 use crate::contacts::Contacts;
@@ -14,8 +15,10 @@ use crate::receive_buffer::{ask_for_buffer, buffer_of};
 use crate::recoveries::Recoveries;
 use crate::seals::handed_on;
 use crate::sign::Signal;
+use crate::status::{Counts, Standing, is_status_question, status_answer};
 use crate::waits::Waits;
 use addresses::Address;
+use fed_types::SiteNo;
 use libc::net::{POLLIN, poll};
 use libc::types::pollfd;
 use std::alloc::Global;
@@ -40,6 +43,17 @@ pub(crate) struct PacedSocket<R: Clock + Drop> {
     keys: Option<KeyRing>,
     pace: Pace,
     recoveries: Recoveries,
+    tally: Tally,
+}
+
+/// What the site counted last, and when.
+#[derive(Clone, Copy)]
+struct Tally {
+    counts: Option<Counts>,
+    /// When counting began last.
+    began: u64,
+    /// When it ended last.
+    ended: u64,
 }
 
 /// A datagram that was taken.
@@ -94,6 +108,11 @@ impl<R: Clock + Drop> PacedSocket<R> {
             keys: None,
             pace: Pace::new(waits, contacts),
             recoveries: Recoveries::new(),
+            tally: Tally {
+                counts: None,
+                began: 0,
+                ended: 0,
+            },
         })
     }
 
@@ -126,8 +145,8 @@ impl<R: Clock + Drop> PacedSocket<R> {
     /// Waits for a datagram, for as long as the pace says, and takes it into the buffer; or the
     /// turn is idle. Where the pace says so at once, what has come stays in the socket. A datagram
     /// from another address is passed over, and so is a client's request to recover that comes too
-    /// early.
-    pub(crate) fn wait_for(&self, buffer: &mut [u8]) -> io::Result<End>
+    /// early. So is a question how the site stands, once it is answered.
+    pub(crate) fn wait_for(&self, alloc: Global, buffer: &mut [u8]) -> io::Result<End>
         ensures { IfOk result (EndsWait self.now.pace self.now.recoveries buffer.new) }
     {
         let began = self.moment()?;
@@ -138,7 +157,7 @@ impl<R: Clock + Drop> PacedSocket<R> {
                 return Ok(End::Idle { began, now });
             }
             if let Some((from, count)) = self.taken_within(left, buffer)? {
-                if !self.is_early(now, &buffer[..count]) {
+                if !self.passes_over(alloc, now, from, &buffer[..count])? {
                     return Ok(End::Taken(Arrival { from, count, now }));
                 }
             }
@@ -148,7 +167,7 @@ impl<R: Clock + Drop> PacedSocket<R> {
 
     /// The same without waiting: the turn is idle where that is due now, or a datagram is taken
     /// that is there. One that is passed over is as none.
-    pub(crate) fn look_for(&self, buffer: &mut [u8]) -> io::Result<Option<End>>
+    pub(crate) fn look_for(&self, alloc: Global, buffer: &mut [u8]) -> io::Result<Option<End>>
         ensures { IfOk result
             (λ got. IfSome got (EndsWait self.now.pace self.now.recoveries buffer.new)) }
     {
@@ -159,7 +178,7 @@ impl<R: Clock + Drop> PacedSocket<R> {
         let Some((from, count)) = self.taken(buffer)? else {
             return Ok(None);
         };
-        if self.is_early(now, &buffer[..count]) {
+        if self.passes_over(alloc, now, from, &buffer[..count])? {
             return Ok(None);
         }
         Ok(Some(End::Taken(Arrival { from, count, now })))
@@ -179,6 +198,81 @@ impl<R: Clock + Drop> PacedSocket<R> {
         ensures recoveries { self.new.recoveries ≡ self.old.recoveries }
     {
         self.pace.awaits_turns(deposits);
+    }
+
+    /// Whether it is time to count anew: a hundred times as long as counting took last has passed
+    /// since then.
+    pub(crate) fn wants_counts(&mut self) -> bool
+        ensures pace { self.new.pace ≡ self.old.pace }
+        ensures recoveries { self.new.recoveries ≡ self.old.recoveries }
+    {
+        let Ok(now) = self.moment() else {
+            return false;
+        };
+        let took = self.tally.ended.saturating_sub(self.tally.began);
+        if now.saturating_sub(self.tally.ended) < took.saturating_mul(100) {
+            return false;
+        }
+        self.tally.began = now;
+        true
+    }
+
+    /// This is what the site counts.
+    pub(crate) fn notes_counts(&mut self, counts: Counts)
+        ensures pace { self.new.pace ≡ self.old.pace }
+        ensures recoveries { self.new.recoveries ≡ self.old.recoveries }
+    {
+        self.tally.counts = Some(counts);
+        self.tally.ended = self.moment().unwrap_or(self.tally.began);
+    }
+
+    // Whether what was taken isn't for the site: a request to recover that comes too early, or a
+    // question that is answered here.
+    fn passes_over(&self, alloc: Global, now: u64, from: Address, bytes: &[u8]) -> io::Result<bool>
+        ensures { IfOk result (λ passed. passed
+            ≡ (is_early self.now.recoveries (pause self.now.pace) now bytes.now
+            || asks_status self.now.pace.contacts bytes.now)) }
+    {
+        if self.is_early(now, bytes) {
+            return Ok(true);
+        }
+        self.answers(alloc, now, from, bytes)
+    }
+
+    // Whether this is a question how the site stands. It is answered, if the site has counted yet;
+    // an answer that can't be sent is lost.
+    fn answers(&self, alloc: Global, now: u64, from: Address, bytes: &[u8]) -> io::Result<bool>
+        ensures { IfOk result (λ asks. asks ≡ asks_status self.now.pace.contacts bytes.now) }
+    {
+        let Some(contacts) = &self.pace.contacts else {
+            return Ok(false);
+        };
+        let (federation, own) = contacts.own();
+        if !is_status_question(alloc, federation, bytes)? {
+            return Ok(false);
+        }
+        let _ = self.answer(alloc, now, from, federation, own);
+        Ok(true)
+    }
+
+    // Says how the site stands, if it has counted yet.
+    fn answer(
+        &self,
+        alloc: Global,
+        now: u64,
+        to: Address,
+        federation: u64,
+        own: SiteNo,
+    ) -> io::Result<()> {
+        let Some(counts) = self.tally.counts else {
+            return Ok(());
+        };
+        let standing = Standing {
+            counts,
+            alone: self.pace.alone_for(now),
+        };
+        let bytes = status_answer(alloc, federation, own, &standing)?;
+        self.send_to(alloc, to, &bytes)
     }
 
     // Whether this is a request to recover that comes too early.

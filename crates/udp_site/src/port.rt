@@ -4,6 +4,7 @@ ghost use Rattle.udp_site.specs.Traffic.{Move, IsReceived, IsTakenIn, IsHanded};
 ghost use Rattle.udp_site.specs.declared.port_fault.PortFault.TheVariants as faults;
 
 use crate::port_fault::PortFault;
+use crate::status::Counts;
 use crate::turn::Turn;
 use addresses::Address;
 
@@ -43,6 +44,21 @@ pub trait Port {
     /// After a batch so many deposits of the site wait that it hasn't proposed yet, as far as they
     /// were counted. A port may have as many turns idle at once as the site needs to propose them.
     fn awaits_turns(&mut self, _deposits: u32)
+        ensures traffic { traffic self.new ≡ traffic self.old }
+        ensures failures { failures self.new ≡ failures self.old }
+    {}
+
+    /// Whether it is time to say what the site counts. A port that answers how the site stands asks
+    /// for that after a batch, but not so often that counting takes long.
+    fn wants_counts(&mut self) -> bool
+        ensures traffic { traffic self.new ≡ traffic self.old }
+        ensures failures { failures self.new ≡ failures self.old }
+    {
+        false
+    }
+
+    /// This is what the site counts.
+    fn notes_counts(&mut self, _counts: Counts)
         ensures traffic { traffic self.new ≡ traffic self.old }
         ensures failures { failures self.new ≡ failures self.old }
     {}

@@ -204,8 +204,8 @@ pub(crate) fn is_pending(bytes: &[u8]) -> bool
     kind_byte(bytes) == QUERY_REPLY && body_byte(bytes) == PENDING
 }
 
-// The kind's byte, or 0 where there is none.
-fn kind_byte(bytes: &[u8]) -> u8
+/// The kind's byte, or 0 where there is none.
+pub(crate) fn kind_byte(bytes: &[u8]) -> u8
     ensures { result ≡ kind_byte bytes.now }
 {
     bytes.get(KIND_PLACE).copied().unwrap_or(0)

@@ -4,6 +4,7 @@ use crate::paced_socket::{Arrival, End, PacedSocket};
 use crate::port::Port;
 use crate::port_fault::PortFault;
 use crate::sign::signal_of;
+use crate::status::Counts;
 use crate::turn::Turn;
 use crate::waits::Waits;
 use addresses::Address;
@@ -210,6 +211,20 @@ impl<R: Clock + Drop> Port for UdpPort<R> {
     {
         self.socket.awaits_turns(deposits);
     }
+
+    fn wants_counts(&mut self) -> bool
+        ensures failures { failures_of self.new ≡ failures_of self.old }
+        ensures same { IsAsBefore self.old self.new }
+    {
+        self.socket.wants_counts()
+    }
+
+    fn notes_counts(&mut self, counts: Counts)
+        ensures failures { failures_of self.new ≡ failures_of self.old }
+        ensures same { IsAsBefore self.old self.new }
+    {
+        self.socket.notes_counts(counts);
+    }
 }
 
 ghost use Rattle.std.specs.Prelude.{◌≡◌, IfOk, OnOk, OnErr, IfSome, IfNone};
@@ -249,7 +264,7 @@ fn turn_at<R: Clock + Drop>(
 {
     // There is room before a datagram is taken, so that none is lost for want of it.
     let mut bytes = vec![in alloc; 0; MOST_BYTES]?;
-    let end = socket.wait_for(&mut bytes)?;
+    let end = socket.wait_for(alloc, &mut bytes)?;
     turn_of(alloc, federation, own, socket, end, bytes)
 }
 
@@ -270,7 +285,7 @@ fn turn_now<R: Clock + Drop>(
 {
     // There is room before a datagram is taken, so that none is lost for want of it.
     let mut bytes = vec![in alloc; 0; MOST_BYTES]?;
-    let Some(end) = socket.look_for(&mut bytes)? else {
+    let Some(end) = socket.look_for(alloc, &mut bytes)? else {
         return Ok(None);
     };
     let turn = turn_of(alloc, federation, own, socket, end, bytes)?;

@@ -11,12 +11,15 @@ use Rattle.udp_site.specs.declared.turn.Turn.TheVariants as turns
 use Rattle.udp_site.specs.Pace.{idles, takes, left, pause}
 use Rattle.udp_site.specs.Recoveries.{is_early, hands_on}
 use Rattle.udp_site.specs.Signs.{signal_at}
+use Rattle.udp_site.specs.Status.{asks_status}
 
--- what was taken fits into the buffer, and is no Recover that comes too early
+-- what was taken fits into the buffer, and is neither a Recover that comes too early nor a question
+-- that the port answers
 abbrev pub IsTaken : Pace → Recoveries → (buffer : List ℕ) → Arrival → Type 0
 IsTaken pace recoveries buffer arrival =
     (arrival.count ≤ length buffer)
     × (is_early recoveries (pause pace) arrival.now (take arrival.count buffer) ≡ false)
+    × (asks_status pace.contacts (take arrival.count buffer) ≡ false)
 
 -- a wait ends with such a datagram, or at a moment when nothing was left of it
 abbrev pub EndsWait : Pace → Recoveries → (buffer : List ℕ) → End → Type 0
@@ -28,11 +31,13 @@ abbrev pub IsIdled : (old new : Pace) → Type 0
 IsIdled old new = (began : ℕ) × (now : ℕ) × (left old began now ≡ 0) × (new ≡ idles old now)
 
 -- A turn was idle, or took a datagram at a moment, from which the pace learns. A Recover is taken
--- only where it doesn't come too early, and later ones are early by it.
+-- only where it doesn't come too early, and later ones are early by it. No question how the site
+-- stands is taken.
 abbrev pub TurnIsPaced : (federation own : ℕ) → (old new : Pace) → (before after : Recoveries) → Turn
     → Type 0
 TurnIsPaced federation own old new before after turns.Idle = IsIdled old new × (after ≡ before)
 TurnIsPaced federation own old new before after (turns.Got from bytes) =
     (now : ℕ) × (new ≡ takes old now (signal_at own from (message_of federation bytes.items)))
     × (is_early before (pause old) now bytes.items ≡ false)
+    × (asks_status old.contacts bytes.items ≡ false)
     × (after ≡ hands_on before now bytes.items)

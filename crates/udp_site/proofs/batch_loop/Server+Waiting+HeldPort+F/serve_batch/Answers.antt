@@ -120,14 +120,19 @@ returns-in_ok-release-in-Ok-clause-serves g c s here =
     let after =
     outside (g.P.Port.traffic c.release.new.port)
     (g.W.Write.contents c.write_lines.new.output) in
-    written_so device rule took before after s c.args.held.now c.sync.new.held left.site.now
+    subst
+    (λ traffic. ServesBatch device rule took before
+    (outside traffic (g.W.Write.contents c.write_lines.new.output)) s c.args.held.now
+    c.sync.new.held left.site.now left.progress.idle left.progress.tried c.write_lines.result)
+    (sym c.tell_counts.ensures.traffic)
+    (written_so device rule took before after s c.args.held.now c.sync.new.held left.site.now
     left.progress.idle left.progress.tried (posts_held left.port.now) left.lines.now.items
     (c.in_ok-take_turns.ensures.takes s here)
     (synced_so device c.args.held.now c.sync.new.held left.site.now.book (Ok c.in-Ok.synced)
     c.in-Ok.ensures.syncs c.in-Ok.ensures.needs_open c.in-Ok.ensures.untouched)
     c.in_ok-release-in-Ok.ensures.hands c.write_lines.result c.deref.result.now
     c.deref.ensures.value c.write_lines.ensures.whole c.write_lines.ensures.part
-    c.write_lines.ensures.none c.write_lines.ensures.fault
+    c.write_lines.ensures.none c.write_lines.ensures.fault)
 
 pub returns-in_ok-release-in-Ok-clause-waits : goal.returns-in_ok-release-in-Ok-clause-waits
 returns-in_ok-release-in-Ok-clause-waits g c =
