@@ -3,7 +3,10 @@
 use code_words::push_name;
 use std::alloc::AllocError;
 use std::fs::{self, File};
-use std::io::{self, ErrorKind};
+use std::io::{self, ErrorKind, Read};
+
+/// What a cell begins with.
+const MAGIC: &[u8] = b"BPJ";
 
 /// Appends a path, and why the cell or the list there can't be read.
 pub(crate) fn push_unread(
@@ -32,5 +35,23 @@ fn push_error(text: &mut String, error: &io::Error) -> Result<(), AllocError> {
         ErrorKind::NotFound => text.push_str(" isn't there"),
         ErrorKind::PermissionDenied => text.push_str(" may not be opened by this user"),
         _ => write!(text, " can't be opened: {error}"),
+    }
+}
+
+/// Appends that the file of this path doesn't begin as a cell does, if it is there and doesn't.
+pub(crate) fn push_other_file(
+    rt: &HostRuntime,
+    text: &mut String,
+    path: &str,
+) -> Result<(), AllocError> {
+    let mut front = [0u8; 3];
+    let Ok(mut file) = File::open(rt, path) else {
+        return Ok(());
+    };
+    match file.read(&mut front) {
+        Ok(count) if count == front.len() && front.as_slice() != MAGIC => {
+            text.push_str("; it doesn't begin as a cell does, so look at the path first")
+        }
+        _ => Ok(()),
     }
 }

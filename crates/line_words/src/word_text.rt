@@ -6,8 +6,33 @@ use std::alloc::AllocError;
 /// How many bytes of a word are shown.
 const LONGEST: usize = 100;
 
-/// Appends words between quotes, one space between them.
+/// What a line of a key file begins with.
+const KEY_NAMES: [&[u8]; 2] = [b"sites", b"clients"];
+
+/// Whether these seem to be the words of a line of a key file, of which no more is shown than the
+/// first: what is said may end in a journal that others read.
+pub(crate) fn are_of_key(words: &[&[u8]]) -> bool {
+    match words {
+        [name, _, ..] => KEY_NAMES.iter().any(|it| *it == *name),
+        _ => false,
+    }
+}
+
+/// Appends words between quotes, one space between them. Of a line of a key file it is the first.
 pub(crate) fn push_found(text: &mut String, words: &[&[u8]]) -> Result<(), AllocError> {
+    match words {
+        [name, ..] if are_of_key(words) => push_key_line(text, name),
+        _ => push_all(text, words),
+    }
+}
+
+fn push_key_line(text: &mut String, name: &[u8]) -> Result<(), AllocError> {
+    text.push('"')?;
+    push_word(text, name)?;
+    text.push_str(" ..\"; this is a key file")
+}
+
+fn push_all(text: &mut String, words: &[&[u8]]) -> Result<(), AllocError> {
     text.push('"')?;
     let mut is_first = true;
     for word in words {

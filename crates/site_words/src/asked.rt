@@ -11,6 +11,8 @@ pub struct Asked<'a> {
     pub site: u8,
     /// The path of the cell, of a site that serves.
     pub cell: Option<&'a str>,
+    /// Whether an address is named at which the site listens.
+    pub listens: bool,
     /// The folder below which bags are read, if one is named.
     pub bags: Option<&'a str>,
     /// The folder to deposit, if one is.

@@ -1,13 +1,19 @@
 //! Why a cell can't be opened.
 
-use crate::file_reason::push_error;
+use crate::file_reason::{bytes_at, push_error};
 use code_words::push_name;
 use std::alloc::AllocError;
 use std::fs::{self, File, TryLockError};
 use std::io::ErrorKind;
 
+/// What a cell begins with.
+const MAGIC: &[u8] = b"BPJ";
+
 const IN_USE: &str =
     " is in use by another process; one site, one cell: see which one runs already";
+
+const EMPTY: &str =
+    " is empty, and a cell has a header at least; if it was the cell of this site, the site is lost";
 
 const UNUSABLE: &str =
     " can't be opened, written or synced, or --existing finds no whole header in it; look at its \
@@ -21,6 +27,7 @@ pub(crate) fn push_cell_reason(
 ) -> Result<(), AllocError> {
     push_name(text, cell)?;
     match fs::symlink_metadata(rt, cell) {
+        Ok(found) if found.is_file() && found.len() == 0 => text.push_str(EMPTY),
         Ok(found) if found.is_file() => push_use(rt, text, cell),
         Ok(found) if found.is_dir() => text.push_str(" is a folder, and a cell is a file"),
         Ok(found) if found.is_symlink() => text.push_str(" is a link, and a cell is a file"),
@@ -41,4 +48,17 @@ fn push_use(rt: &HostRuntime, text: &mut String, cell: &str) -> Result<(), Alloc
         },
         Err(error) => push_error(text, &error),
     }
+}
+
+/// Appends that a file doesn't begin as a cell does, if it is there and doesn't.
+pub(crate) fn push_other_file(
+    rt: &HostRuntime,
+    text: &mut String,
+    cell: &str,
+) -> Result<(), AllocError> {
+    let bytes = bytes_at(rt, cell);
+    if bytes.is_empty() || bytes.as_slice().starts_with(MAGIC) {
+        return Ok(());
+    }
+    text.push_str("; it doesn't begin as a cell does, so look at the path first")
 }

@@ -1,7 +1,7 @@
 //! What a line of `site` or `send` says.
 
 use crate::asked::Asked;
-use crate::cell_reason::push_cell_reason;
+use crate::cell_reason::{push_cell_reason, push_other_file};
 use crate::file_reason::push_file_reason;
 use crate::members_reason::{place_of, push_line_reason, push_stranger};
 use code_words::{Meaning, meaning_of_line, push_name};
@@ -43,6 +43,11 @@ fn push_meaning(
     };
     push_subject(text, asked, line, meaning)?;
     meaning.push(text)?;
+    if line.starts_with("open ") {
+        if let Some(cell) = asked.cell {
+            push_other_file(rt, text, cell)?;
+        }
+    }
     push_hint(text, asked, meaning)
 }
 
@@ -50,6 +55,11 @@ fn push_meaning(
 fn push_hint(text: &mut String, asked: &Asked<'_>, meaning: &Meaning) -> Result<(), AllocError> {
     if meaning.code == "unread 4" {
         text.push_str("; or it has more bytes than the site takes, by its option --most-bytes")?;
+    }
+    if let Some(path) = asked.path {
+        if meaning.code == "unread 1" && path.starts_with('/') {
+            text.push_str("; or the site takes only paths below the folder of its option --bags")?;
+        }
     }
     if asked.path.is_some() && is_of_folder(meaning) {
         return text.push_str("; `bagpaxos check --words` of that folder says where");
@@ -130,11 +140,18 @@ fn push_silence(rt: &HostRuntime, text: &mut String, asked: &Asked<'_>) -> Resul
         }
     }
     if asked.path.is_some() {
-        return text.push_str(
+        text.push_str(
             "; it is down, or the site may still be reading the bag: ask, don't deposit again",
-        );
+        )?;
+    } else {
+        text.push_str(
+            "; it is down, or may be reading a large bag: see whether it runs, and ask again",
+        )?;
     }
-    text.push_str("; it is down, or may be reading a large bag: see whether it runs, and ask again")
+    text.push_str(
+        "; or its members file is of another federation, or its key is another, or one of both has \
+        none: `bagpaxos members` and `bagpaxos members --key` say which they are",
+    )
 }
 
 // Whether a site replies that it knows no bag.
@@ -158,15 +175,18 @@ fn push_in_vain(text: &mut String, asked: &Asked<'_>) -> Result<(), AllocError> 
 fn push_socket(rt: &HostRuntime, text: &mut String, asked: &Asked<'_>) -> Result<(), AllocError> {
     if asked.cell.is_some() {
         if let Some(place) = place_of(rt, asked) {
-            return push_refused_place(text, &place);
+            return push_refused_place(text, &place, asked.listens);
         }
     }
     text.push_str("the system gives no port for the answer")
 }
 
 // Appends why a site may get no socket at its place.
-fn push_refused_place(text: &mut String, place: &Place) -> Result<(), AllocError> {
+fn push_refused_place(text: &mut String, place: &Place, listens: bool) -> Result<(), AllocError> {
     match place {
+        Place::Port(_) if listens => text.push_str(
+            "--listen is for a members file with addresses, and this one has ports: leave it out",
+        ),
         Place::Port(port) => write!(
             text,
             "port {port} can't be had: another process has it, or the system refuses it; \
