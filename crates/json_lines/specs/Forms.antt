@@ -50,8 +50,8 @@ cell = name (codes "cell")
 abbrev pub federation : FormPart
 federation = text (codes "federation")
 
--- the lines of journal and ledger, of audit, of members and of catch-up; the two of counts come
--- last, since they begin with no word of their own
+-- the lines of journal and ledger, of audit, of members, of status and of catch-up; the two of counts
+-- come last, since they begin with no word of their own
 unfoldable pub forms : List LineForm
 forms =
     of_kind (codes "cell") (word (codes "cell") ∷ federation ∷ site ∷ numbers (codes "weights")
@@ -83,6 +83,14 @@ forms =
     ∷ of_kind (codes "ledger line") (word (codes "ledger") ∷ word (codes "line")
     ∷ number (codes "number") ∷ [])
     ∷ of_kind (codes "key") (word (codes "key") ∷ text (codes "kind") ∷ text (codes "name") ∷ [])
+    ∷ of_kind (codes "up") (word (codes "site") ∷ site ∷ word (codes "up") ∷ number (codes "ms")
+    ∷ word (codes "records") ∷ number (codes "records") ∷ word (codes "known")
+    ∷ number (codes "known") ∷ word (codes "pending") ∷ number (codes "pending")
+    ∷ word (codes "alone") ∷ number (codes "alone") ∷ word (codes "lacks")
+    ∷ number (codes "lacks") ∷ [])
+    ∷ of_kind (codes "silent") (word (codes "site") ∷ site ∷ word (codes "silent") ∷ [])
+    ∷ of_kind (codes "federation") (word (codes "federation") ∷ federation
+    ∷ number (codes "well") ∷ word (codes "of") ∷ number (codes "sites") ∷ [])
     ∷ of_kind (codes "counts") (number (codes "chosen") ∷ word (codes "chosen,")
     ∷ number (codes "known") ∷ word (codes "known,") ∷ number (codes "open")
     ∷ word (codes "open,") ∷ number (codes "conflicts") ∷ word (codes "conflicts") ∷ [])

@@ -49,7 +49,7 @@ const FEDERATION: Part = Part::Text("federation");
 const KNOWN: Part = Part::Number("known");
 
 /// All forms. A line is of the first one that it fits.
-static FORMS: [Form; 26] = [
+static FORMS: [Form; 29] = [
     Form {
         kind: "cell",
         parts: &[
@@ -156,6 +156,39 @@ static FORMS: [Form; 26] = [
     Form {
         kind: "key",
         parts: &[Part::Word("key"), Part::Text("kind"), Part::Text("name")],
+    },
+    Form {
+        kind: "up",
+        parts: &[
+            Part::Word("site"),
+            SITE,
+            Part::Word("up"),
+            Part::Number("ms"),
+            Part::Word("records"),
+            Part::Number("records"),
+            Part::Word("known"),
+            KNOWN,
+            Part::Word("pending"),
+            Part::Number("pending"),
+            Part::Word("alone"),
+            Part::Number("alone"),
+            Part::Word("lacks"),
+            Part::Number("lacks"),
+        ],
+    },
+    Form {
+        kind: "silent",
+        parts: &[Part::Word("site"), SITE, Part::Word("silent")],
+    },
+    Form {
+        kind: "federation",
+        parts: &[
+            Part::Word("federation"),
+            FEDERATION,
+            Part::Number("well"),
+            Part::Word("of"),
+            Part::Number("sites"),
+        ],
     },
     Form {
         kind: "counts",

@@ -1,0 +1,106 @@
+//! The command `status`.
+
+use crate::arguments::StatusTask;
+use crate::sites::{Federation, federation_at};
+use crate::standing_speaker::StandingSpeaker;
+use counted_writes::{CountedWriter, write_output};
+use file_words::SpokenLines;
+use json_lines::JsonLines;
+use known_bags::{DiskSources, SourceFault, push_sources, write_fault};
+use outcomes::ProgramFault;
+use site_commands::{Stop, write_stop};
+use site_words::{Asked, SpokenOutput};
+use standings::{report_standings, versions_in};
+use std::alloc::AllocError;
+use std::io::{self, Write};
+use std::thread;
+use std::time::Duration;
+
+/// How a report ended.
+#[derive(Clone, Copy, Debug)]
+enum Ended {
+    /// The sites were asked, and all are well or one isn't, by this status.
+    Asked(u8),
+    /// Nobody was asked; a line has said why.
+    Refused(u8),
+}
+
+/// Asks as the arguments say, once, or again and again. The lines are written to standard output,
+/// and said in words on standard error, if that is asked for.
+pub fn show_status(rt: &HostRuntime, task: &StatusTask<'_>) -> Result<u8, ProgramFault> {
+    let Some(seconds) = task.watch else {
+        return Ok(status_of(show_once(rt, task)?));
+    };
+    for _ in 0..u64::MAX {
+        if let Ended::Refused(status) = show_once(rt, task)? {
+            return Ok(status);
+        }
+        thread::sleep(rt, Duration::from_secs(u64::from(seconds)));
+    }
+    Ok(1)
+}
+
+fn status_of(ended: Ended) -> u8 {
+    match ended {
+        Ended::Asked(status) | Ended::Refused(status) => status,
+    }
+}
+
+// One report.
+fn show_once(rt: &HostRuntime, task: &StatusTask<'_>) -> Result<Ended, ProgramFault> {
+    let speaker = StandingSpeaker::if_asked(rt, task);
+    let output = JsonLines::new(rt.alloc(), task.json, io::writer(rt));
+    let output = &mut CountedWriter::new(SpokenLines::new(rt.alloc(), speaker, output));
+    let by_files = match known_by_files(rt, task) {
+        Ok(count) => count,
+        Err(fault) => return Ok(Ended::Refused(write_fault(rt.alloc(), output, fault)?)),
+    };
+    match federation_at(rt, task.members, task.key, task.wait) {
+        Ok(mut federation) => {
+            let Federation {
+                number,
+                sites,
+                port,
+            } = &mut federation;
+            let status = report_standings(
+                rt.alloc(),
+                rt,
+                port,
+                *number,
+                by_files,
+                sites.as_mut_slice(),
+                output,
+            )?;
+            Ok(Ended::Asked(status))
+        }
+        Err(stop) => Ok(Ended::Refused(refuse(rt, task, stop)?)),
+    }
+}
+
+// How many versions the files know.
+fn known_by_files(rt: &HostRuntime, task: &StatusTask<'_>) -> Result<u64, SourceFault> {
+    let mut versions = Vec::new(rt.alloc());
+    push_sources(rt.alloc(), &DiskSources { rt }, &mut versions, &task.files)?;
+    match versions_in(rt.alloc(), versions.as_slice()) {
+        Ok(count) => Ok(count as u64),
+        Err(AllocError) => Err(SourceFault::Memory),
+    }
+}
+
+// Writes why nobody can be asked, and says it in words if they are asked for.
+fn refuse(rt: &HostRuntime, task: &StatusTask<'_>, stop: Stop) -> Result<u8, ProgramFault> {
+    let asked = Asked {
+        members: task.members,
+        key: task.key,
+        site: 1,
+        cell: None,
+        listens: false,
+        bags: None,
+        path: None,
+        wait: task.wait,
+        until_known: None,
+    };
+    let asked = if task.words { Some(asked) } else { None };
+    let output = JsonLines::new(rt.alloc(), task.json, io::writer(rt));
+    write_stop(rt.alloc(), &mut SpokenOutput::new(rt, asked, output), stop)
+}

@@ -1,0 +1,14 @@
+//! The command `status`: how the sites of a federation stand.
+//!
+//! ```
+//! Ok(Some(Task::Status(task))) => exit_of(hinted(rt, task.words, show_status(rt, &task))),
+//! ```
+#![tactic(auto)]
+
+mod arguments;
+mod command;
+mod sites;
+mod standing_speaker;
+
+pub use arguments::{StatusTask, status_command, status_task};
+pub use command::show_status;

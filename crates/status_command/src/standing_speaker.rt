@@ -1,0 +1,135 @@
+//! Why a site isn't well, and why a file can't be used.
+
+use crate::arguments::StatusTask;
+use code_words::meaning_of_line;
+use file_words::{LineSpeaker, push_file_words, say_text};
+use known_bags::{DiskSources, push_source};
+use std::alloc::AllocError;
+
+/// What says the lines of sites.
+#[derive(Clone, Copy)]
+pub(crate) struct StandingSpeaker<'a> {
+    rt: &'a HostRuntime,
+    /// The path of the members file.
+    members: &'a str,
+    /// The paths of cells and lists.
+    files: &'a [&'a str],
+    /// How many milliseconds an answer may take.
+    wait: u32,
+}
+
+impl<'a> StandingSpeaker<'a> {
+    /// What says them, if words are asked for.
+    pub(crate) fn if_asked(
+        rt: &'a HostRuntime,
+        task: &'a StatusTask<'a>,
+    ) -> Option<StandingSpeaker<'a>> {
+        if !task.words {
+            return None;
+        }
+        Some(StandingSpeaker {
+            rt,
+            members: task.members,
+            files: task.files.as_slice(),
+            wait: task.wait,
+        })
+    }
+
+    fn words_of(&self, line: &str) -> Result<String, AllocError> {
+        let mut text = String::new(self.rt.alloc());
+        let words = line.split(' ').collect::<Vec<&str>>(self.rt.alloc())?;
+        match words.as_slice() {
+            ["site", site, "silent"] => self.push_silent(&mut text, site)?,
+            [
+                "site",
+                site,
+                "up",
+                _,
+                _,
+                _,
+                _,
+                _,
+                _,
+                pending,
+                _,
+                alone,
+                _,
+                lacks,
+            ] => {
+                self.push_up(&mut text, site, pending, alone, lacks)?;
+            }
+            ["federation", ..] => {}
+            ["memory"] => self.push_code(&mut text, line)?,
+            _ => self.push_file(&mut text, line)?,
+        }
+        Ok(text)
+    }
+
+    fn push_silent(&self, text: &mut String, site: &str) -> Result<(), AllocError> {
+        let wait = self.wait;
+        write!(
+            text,
+            "site {site}: three questions had no answer in {wait} ms each: it is down, or is \
+            reading a large bag, or hasn't ended its first turn; or its members file is of another \
+            federation, or its key is another, or one of both has none; or its program is older"
+        )
+    }
+
+    // Appends what isn't well with a site that answers.
+    fn push_up(
+        &self,
+        text: &mut String,
+        site: &str,
+        pending: &str,
+        alone: &str,
+        lacks: &str,
+    ) -> Result<(), AllocError> {
+        if pending != "0" && alone != "0" {
+            write!(
+                text,
+                "site {site}: {pending} deposits wait, and it has heard no majority for {alone} \
+                ms: sites with more than half of all weight have to run and to hear each other"
+            )?;
+        }
+        if lacks != "0" {
+            if !text.is_empty() {
+                text.push('\n')?;
+            }
+            let members = self.members;
+            write!(
+                text,
+                "site {site}: {lacks} versions at least are known elsewhere: if that lasts, \
+                `bagpaxos catch-up --members {members} --to {site}` with a list of `ledger` or a \
+                cell of another site brings it up to date"
+            )?;
+        }
+        Ok(())
+    }
+
+    // Appends what a line says of the first file that can't be used, if one can't.
+    fn push_file(&self, text: &mut String, line: &str) -> Result<(), AllocError> {
+        if meaning_of_line(self.rt.alloc(), line)?.is_none() {
+            return Ok(());
+        }
+        for path in self.files {
+            let bags = &mut Vec::new(self.rt.alloc());
+            if push_source(self.rt.alloc(), &DiskSources { rt: self.rt }, bags, path).is_err() {
+                return push_file_words(self.rt, text, path, line);
+            }
+        }
+        Ok(())
+    }
+
+    fn push_code(&self, text: &mut String, line: &str) -> Result<(), AllocError> {
+        match meaning_of_line(self.rt.alloc(), line)? {
+            Some(meaning) => meaning.push(text),
+            None => Ok(()),
+        }
+    }
+}
+
+impl LineSpeaker for StandingSpeaker<'_> {
+    fn say(&mut self, line: &str) {
+        say_text(self.rt, self.words_of(line));
+    }
+}
