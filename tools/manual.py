@@ -6,6 +6,8 @@ SECTION = re.compile(r"(Commands|Arguments|Options):\n((?:  .*\n)+)\n?")
 # The values of these options and arguments are files, or folders; of others nothing is known.
 FILES = "<FILE>", "[FILE]", "<CELL>", "<PICTURE>"
 FOLDERS = "<FOLDER>", "[FOLDER]", "[PATH]"
+# The columns that `man` has beside the indent, on a terminal of 80: it takes 78.
+WIDTH = 71
 
 
 class Help:
@@ -15,7 +17,9 @@ class Help:
         how = {"stdout": subprocess.PIPE, "text": True, "check": True}
         ran = subprocess.run([program, *words, "--help"], **how)
         self.about, _, rest = ran.stdout.partition("\n\nUsage: ")
-        self.usage, _, rest = rest.partition("\n\n")
+        usage, _, rest = rest.partition("\n\n")
+        # Further lines are below the first, which stands after `Usage: `.
+        self.usage = usage.replace("\n       ", "\n")
         self.sections = {}
         while found := SECTION.match(rest):
             entries = (re.split(r" {2,}", it.strip(), maxsplit=1) for it in found[2].splitlines())
@@ -52,26 +56,69 @@ def listed(entries):
 
 
 def as_it_stands(text):
-    # At the left edge: with an indent the lines, of up to 80 columns, wouldn't fit a terminal.
-    return [".PP", ".in 0", ".nf", escaped(text), ".fi", ".in"] if text else []
+    """The text line for line, with the indent of all text, or a smaller one for a long line."""
+    if not text:
+        return []
+    text = re.sub("(?m)^  ", "", text) if text.startswith("  ") else text
+    beyond = max(map(len, text.split("\n"))) - WIDTH
+    back, again = ([f".in -{beyond}n"], [".in"]) if beyond > 0 else ([], [])
+    return [".PP", *back, ".nf", escaped(text), ".fi", *again]
 
 
-def manual(program, version):
-    """The page bagpaxos(1). The version is told in several lines, the name and the number first."""
+def told(text):
+    """Text of the help: its paragraphs are filled, its tables are entries, and lines of examples
+    stay as they are. So all has the indent of a page, and fits a terminal of 80 columns."""
+    lines = []
+    for part in re.findall(r"(?m)(?:^\S.*\n?)+|(?:^ .*\n?)+", text):
+        part = part.rstrip("\n")
+        if not part.startswith(" "):
+            lines += [".PP", escaped(part)]
+        elif re.search(r"\S {2,}\S|[^\\]\n {3}", part):
+            lines += table(part)
+        else:
+            lines += as_it_stands(part)
+    return lines
+
+
+def table(part):
+    """Entries with a name and what is said of it, which keeps its lines."""
+    rows = [row(it) for it in re.findall(r"(?m)^  \S.*(?:\n {3,}.*)*", part)]
+    width = WIDTH - max(len(it) for _, about in rows for it in about)
+    width = min(width, max(len(name) for name, _ in rows) + 2)
+    lines = []
+    for name, about in rows:
+        lines += [f".TP {width}n", escaped(name), "\n.br\n".join(map(escaped, about))]
+    return lines
+
+
+def row(text):
+    """The name of an entry, and the lines of what is said of it."""
+    first, *others = text.split("\n")
+    name, *about = re.split(r" {2,}", first[2:], maxsplit=1)
+    column = first.rindex(about[0]) if about else re.match(" *", "".join(others)).end()
+    return name, [*about, *(it[column:] for it in others)]
+
+
+def manual(program, version, pages):
+    """The page bagpaxos(1). The version is told in several lines, the name and the number first;
+    pages is the folder of the others."""
     whole, commands = helps(program)
     usages = "\n".join(it.usage for it in [whole, *commands.values()])
     lines = [f'.TH BAGPAXOS 1 "" "{escaped(version.partition(chr(10))[0])}"']
+    # Words of commands aren't to be divided.
+    lines += [".nh", ".ad l"]
     about = whole.about.replace("\n", " ")
     lines += [".SH NAME", f"bagpaxos \\- {escaped(about)}"]
     lines += [".SH SYNOPSIS", *as_it_stands(usages)]
     lines += [".SH COMMANDS", *listed(whole.entries("Commands"))]
-    lines += [".SH OPTIONS", *listed(whole.entries("Options")), *as_it_stands(whole.rest)]
+    lines += [".SH OPTIONS", *listed(whole.entries("Options")), *told(whole.rest)]
     for name, command in commands.items():
         lines += [f".SH BAGPAXOS {name.upper()}", escaped(command.about)]
         lines += [*as_it_stands(command.usage)]
         lines += listed(command.entries("Arguments") + command.entries("Options"))
-        lines += as_it_stands(command.rest)
-    lines += [".SH CODES", *as_it_stands(codes(program))]
+        lines += told(command.rest)
+    lines += [".SH CODES", *told(codes(program))]
+    lines += [".SH FILES", ".TP", escaped(str(pages)), "The pages, README.md first, and examples."]
     lines += [".SH VERSION", *as_it_stands(version)]
     return "\n".join(lines) + "\n"
 
