@@ -196,6 +196,13 @@ class Folder:
         return [it for it in self.files if it.startswith("data/")]
 
 
+def letters_of(name):
+    """A name in small letters, without dashes, blanks and endings `.txt`."""
+    plain = re.sub("[-_ \u2010-\u2015\u2212]", "", name)
+    plain = "".join(chr(ord(it) + 32) if "A" <= it <= "Z" else it for it in plain)
+    return re.sub("([.]txt)+$", "", plain)
+
+
 class Finding:
     """A line of `check --explain` below the first: a fault's number and its place."""
 
@@ -259,12 +266,22 @@ class Words:
             return self.declared(it)
         if it.number == 11:
             return self.entry(it) + " again"
-        return "data isn't there, or is no folder" if it.number == 6 else "fetch.txt is in the bag"
+        if it.number == 5:
+            return "fetch.txt is in the bag"
+        tops = [it.split("/")[0] for it in self.files if "/" in it]
+        meant = [it for it in tops if it != "data" and letters_of(it) == "data"]
+        more = f"; if the folder {shown(meant[0])} is meant, rename it to data" if meant else ""
+        return f"data isn't there, or is no folder{more}"
+
+    def near(self, name):
+        """Which file beside the payload may be meant to have this name, which none has."""
+        meant = [it for it in self.files if "/" not in it and letters_of(it) == letters_of(name)]
+        return f"; if {shown(meant[0])} is meant, rename it to {name}" if meant else ""
 
     def no_declaration(self, _):
         below = [it[:-10] for it in self.files if it.endswith("/bagit.txt")]
         more = f"; there is one in {shown(below[0])}: maybe that is the bag" if below else ""
-        return f"bagit.txt isn't there{more}"
+        return f"bagit.txt isn't there{more or self.near('bagit.txt')}"
 
     def line_at(self, it):
         lines = lines_of(self.files.get(it.name, b""))
@@ -283,14 +300,15 @@ class Words:
     def no_manifest(self, _):
         alike = [it for it in self.files if it[:8].lower() == "manifest" and "/" not in it]
         more = f"; there is {', '.join(map(shown, alike))}" if alike else ""
-        return f"manifest-sha512.txt isn't there{more}"
+        return f"manifest-sha512.txt isn't there{more}{self.near('manifest-sha512.txt')}"
 
     def unknown(self, it):
-        letters = lambda name: re.sub("[-_]", "", name).lower()
         meant = [f"{kind}-{algorithm}.txt" for kind in ("manifest", "tagmanifest")
                  for algorithm in READ]
-        meant = [one for one in meant if letters(one) == letters(it.path) and one not in self.files]
+        meant = [one for one in meant if letters_of(one) == letters_of(it.path)]
         more = f"; rename it to {meant[0]}, and in tag manifests" if meant else ""
+        if meant and meant[0] in self.files:
+            more = f"; {meant[0]} is there too: compare both, and keep this one elsewhere"
         return f"{shown_path(it.path)} is of an algorithm that isn't read here{more}"
 
     def malformed(self, it):
@@ -321,6 +339,9 @@ class Words:
         return f"{it.name} line {it.line} lists {shown_path(it.path)}"
 
     def astray(self, it):
+        if it.path.startswith("/"):
+            more = ", which begins with a slash, and paths begin in the bag's own folder"
+            return self.entry(it) + more
         if is_unsafe(it.path):
             return self.entry(it) + (", which has an empty part, one that is . or .., or a slash at "
                                      "an end")
@@ -350,7 +371,9 @@ class Words:
                 f"{it.algorithm} {listed}, found is {found}")
 
     def by_rfc(self):
-        """A bag that is refused here alone."""
+        """A bag that is refused here alone, if each of its files was read."""
+        if self.folder.unread:
+            return
         numbers = {it.number for it in self.findings}
         found = [it for it in READ if f"manifest-{it}.txt" in self.files]
         if not numbers or numbers - {5, 7, 8} or not found:
@@ -421,7 +444,8 @@ def in_order_within(line):
     """A line, in which the disk has the order of manifests, or of twins."""
     front, there_is, names = line.partition("txt isn't there; there is ")
     if there_is and front.endswith("manifest-sha512.") and not names.startswith("one in"):
-        return front + there_is + ", ".join(sorted(names.split(", ")))
+        names, meant, more = names.partition("; if ")
+        return front + there_is + ", ".join(sorted(names.split(", "))) + meant + more
     twins = re.fullmatch("warning: (.*) and (.*)( differ only by Unicode form: .*)", line)
     return f"warning: {' and '.join(sorted(twins.groups()[:2]))}{twins[3]}" if twins else line
 
@@ -447,4 +471,6 @@ def is_open(path):
     """Whether the disk's order decides which of two files a name may be mistaken for."""
     files = Folder(path).files
     below = [it for it in files if it.endswith("/bagit.txt")]
-    return len({key_of(it) for it in files}) < len(files) or len(below) > 1
+    beside = [letters_of(it) for it in files if "/" not in it]
+    return (len({key_of(it) for it in files}) < len(files) or len(below) > 1
+            or len({*beside}) < len(beside))

@@ -3,7 +3,7 @@
 use crate::arguments::AuditTask;
 use crate::conflict_cells::{Conflict, push_names};
 use code_words::{OTHERS, push_name};
-use file_words::{LineSpeaker, say_text};
+use file_words::{LineSpeaker, push_other_file, say_text};
 use ledger::LiveCell;
 use std::alloc::AllocError;
 use words::push_escaped;
@@ -90,6 +90,7 @@ impl<'a> AuditSpeaker<'a> {
         if let Some(path) = self.path_of(cell)? {
             if LiveCell::open(self.rt, path).is_ok() {
                 push_code(text, Some(path), "unread CELL")?;
+                push_other_file(self.rt, text, path)?;
             }
         }
         self.leave_out(cell)

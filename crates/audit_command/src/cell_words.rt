@@ -17,8 +17,7 @@ const IN_USE: &str =
 const PIPED: &str =
     " comes through a pipe and can't be synced, so its last 64 records aren't counted";
 
-const FREE: &str =
-    " isn't in use: it was synced before it was read, and each of its records can be counted";
+const FREE: &str = " isn't in use, and was synced before it was read";
 
 /// Says on standard error that the cell of this path is in use, or why it can't be opened. If
 /// standard error can't be written, or memory runs out, it says nothing.

@@ -19,4 +19,6 @@ pub(crate) struct Bag<'a, 'f> {
     pub(crate) folder: &'a str,
     pub(crate) facts: &'a Facts,
     pub(crate) files: &'f FilesByPath<'a>,
+    /// Whether each file was read, and its digests were asked for: so all that is wrong is known.
+    pub(crate) is_known_whole: bool,
 }

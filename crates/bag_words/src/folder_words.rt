@@ -31,14 +31,17 @@ pub(crate) fn push_read_words(
 ) -> Result<(), AllocError> {
     let unread = UnreadPaths::of(rt.alloc(), &[])?;
     let lines = lines_of(rt.alloc(), facts, wanted)?;
+    let is_whole = wanted == Wanted::All;
+    let counts = Counts::default();
     push_facts_words(
         rt,
         text,
         folder,
         facts,
+        is_whole,
         lines.as_str(),
         &unread,
-        Counts::default(),
+        counts,
     )
 }
 
@@ -55,9 +58,10 @@ pub(crate) fn push_unread_words(
         let code = meaning.code;
         write!(text, "{code}: ")?;
         meaning.push(text)?;
+        push_line_end(text, folder)?;
         text.push('\n')?;
     }
-    let Gathered { facts, places } = gather(rt, folder)?;
+    let Gathered { facts, places } = gather(rt, folder, wanted == Wanted::All)?;
     push_unread_places(text, folder, places.as_slice())?;
     let unread = UnreadPaths::of(rt.alloc(), places.as_slice())?;
     let counts = Counts {
@@ -67,10 +71,34 @@ pub(crate) fn push_unread_words(
     match facts {
         Some(facts) => {
             let lines = lines_of(rt.alloc(), &facts, wanted)?;
-            push_facts_words(rt, text, folder, &facts, lines.as_str(), &unread, counts)
+            push_facts_words(
+                rt,
+                text,
+                folder,
+                &facts,
+                false,
+                lines.as_str(),
+                &unread,
+                counts,
+            )
         }
         None => Ok(()),
     }
+}
+
+// Appends why a name may be that of no folder: it was read from a list with line ends of Windows, or
+// with an empty line.
+fn push_line_end(text: &mut String, folder: &str) -> Result<(), AllocError> {
+    if folder.is_empty() {
+        return text.push_str("; its name is empty, as that of an empty line of a list");
+    }
+    if folder.ends_with('\r') {
+        return text.push_str(
+            "; its name ends with a carriage return: a list has to have a line feed alone after \
+            each name",
+        );
+    }
+    Ok(())
 }
 
 // The lines of what is wrong, as far as it is wanted.
@@ -87,6 +115,7 @@ fn push_facts_words<'a>(
     text: &mut String,
     folder: &'a str,
     facts: &'a Facts,
+    is_known_whole: bool,
     lines: &str,
     unread: &UnreadPaths<'_>,
     counts: Counts,
@@ -97,6 +126,7 @@ fn push_facts_words<'a>(
         folder,
         facts,
         files: &files,
+        is_known_whole,
     };
     push_bag_words(text, &bag, lines, unread, counts)
 }

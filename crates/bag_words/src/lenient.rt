@@ -2,9 +2,11 @@
 
 use crate::unread::{Reason, Unread};
 use bag_check::named_by;
-use bag_digest::Algorithms;
+use bag_digest::{Algorithms, Digests};
 use bag_folders::hash_reader;
-use bag_tree::{DEEPEST_PATH, Facts, FileFacts, MOST_FILES, PAYLOAD_FOLDER, TreeFault, part_count};
+use bag_tree::{
+    DEEPEST_PATH, Facts, FileFacts, MOST_FILES, PAYLOAD_FOLDER, TreeFault, is_read_text, part_count,
+};
 use std::alloc::AllocError;
 use std::fs::{self, DirEntry, File};
 use std::io;
@@ -31,8 +33,12 @@ struct Walk<'a> {
 }
 
 /// What can be read in this folder and below it. The folder's own path is the only link that is
-/// followed.
-pub(crate) fn gather<'a>(rt: &'a HostRuntime, folder: &'a str) -> Result<Gathered, AllocError> {
+/// followed. If no digests are asked for, no file is read but the bag's texts.
+pub(crate) fn gather<'a>(
+    rt: &'a HostRuntime,
+    folder: &'a str,
+    with_digests: bool,
+) -> Result<Gathered, AllocError> {
     let alloc = rt.alloc();
     let mut walk = Walk {
         rt,
@@ -65,7 +71,7 @@ pub(crate) fn gather<'a>(rt: &'a HostRuntime, folder: &'a str) -> Result<Gathere
             places,
         });
     }
-    walk.hash()
+    walk.hash(with_digests)
 }
 
 impl Walk<'_> {
@@ -134,14 +140,19 @@ impl Walk<'_> {
     }
 
     // Reads the files that were found.
-    fn hash(self) -> Result<Gathered, AllocError> {
+    fn hash(self, with_digests: bool) -> Result<Gathered, AllocError> {
         let mut walk = self;
         let none = Vec::new(walk.rt.alloc());
         let files = std::mem::replace(&mut walk.files, none);
         let wanted = wanted_of(files.as_slice());
         let mut known = Vec::new(walk.rt.alloc());
         for path in files {
-            match walk.hash_file(path.as_str(), wanted)? {
+            let found = if with_digests || is_read_text(path.as_bytes()) {
+                walk.hash_file(path.as_str(), wanted)?
+            } else {
+                walk.list_file(path.as_str())?
+            };
+            match found {
                 Ok(facts) => known.push(facts)?,
                 Err(reason) => walk.note(path.as_str(), reason)?,
             }
@@ -149,6 +160,19 @@ impl Walk<'_> {
         let facts = Some(Facts::new(known, walk.payload));
         let Walk { places, .. } = walk;
         Ok(Gathered { facts, places })
+    }
+
+    // A file without its digests, if it is there still.
+    fn list_file(&self, path: &str) -> Result<Result<FileFacts, Reason>, AllocError> {
+        let place = self.path_of(path)?;
+        match fs::symlink_metadata(self.rt, place.as_str()) {
+            Ok(metadata) if metadata.is_file() => {
+                let path = String::from_str(self.rt.alloc(), path)?;
+                Ok(Ok(FileFacts::hashed(path, Digests::none())))
+            }
+            Ok(metadata) => Ok(Err(Reason::of_entry(&metadata))),
+            Err(error) => out_of(&error),
+        }
     }
 
     fn hash_file(

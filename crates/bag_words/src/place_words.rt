@@ -6,7 +6,7 @@ use crate::finding::Finding;
 use crate::found_digest::push_digests;
 use crate::listed::TextLines;
 use crate::manifest_line::push_malformed;
-use crate::meant_manifest::push_meant;
+use crate::meant_manifest::{push_meant, push_near, push_near_folder};
 use crate::near_names::NearNames;
 use bag_tree::{has_unsafe_part, is_payload};
 use code_words::{push_name, push_quoted};
@@ -35,6 +35,7 @@ pub(crate) fn push_place<'a>(
         12 => push_missing(text, bag, near, finding)?,
         13 => push_unlisted(text, bag, near, finding)?,
         14 => push_digests(text, bag, finding, texts.line_at(bag, finding)?)?,
+        6 => push_no_payload(text, bag)?,
         _ => push_presence(text, finding)?,
     }
     text.push('\n')
@@ -50,7 +51,7 @@ fn push_no_declaration(text: &mut String, bag: &Bag<'_, '_>) -> Result<(), Alloc
             return text.push_str(": maybe that is the bag");
         }
     }
-    Ok(())
+    push_near(text, bag, "bagit.txt")
 }
 
 // Which manifests there are in place of the one that is needed.
@@ -65,7 +66,7 @@ fn push_no_manifest(text: &mut String, bag: &Bag<'_, '_>) -> Result<(), AllocErr
             separator = ", ";
         }
     }
-    Ok(())
+    push_near(text, bag, "manifest-sha512.txt")
 }
 
 // Whether a path is that of a payload manifest, or nearly.
@@ -110,6 +111,13 @@ fn push_astray(
     finding: &Finding<'_>,
 ) -> Result<(), AllocError> {
     let path = finding.path.as_str();
+    if path.starts_with('/') {
+        return push_entry(
+            text,
+            finding,
+            ", which begins with a slash, and paths begin in the bag's own folder",
+        );
+    }
     if has_unsafe_part(path.as_bytes()) {
         return push_entry(
             text,
@@ -162,10 +170,12 @@ fn push_unlisted(
 }
 
 // What is there and mayn't be, or the other way round.
+fn push_no_payload(text: &mut String, bag: &Bag<'_, '_>) -> Result<(), AllocError> {
+    text.push_str("data isn't there, or is no folder")?;
+    push_near_folder(text, bag, "data")
+}
+
 fn push_presence(text: &mut String, finding: &Finding<'_>) -> Result<(), AllocError> {
     push_path(text, finding.path.as_str())?;
-    match finding.number {
-        6 => text.push_str(" isn't there, or is no folder"),
-        _ => text.push_str(" is in the bag"),
-    }
+    text.push_str(" is in the bag")
 }

@@ -6,13 +6,15 @@ use bag_check::Kind;
 use std::alloc::AllocError;
 
 /// Appends that the bag is valid by RFC 8493, if it is, and is still refused here, since it has a
-/// fetch.txt, no manifest-sha512.txt, or manifests that aren't read.
+/// fetch.txt, no manifest-sha512.txt, or manifests that aren't read. Where a file wasn't read, or no
+/// digest was asked for, nobody knows that.
 pub(crate) fn push_rfc(
     text: &mut String,
     bag: &Bag<'_, '_>,
     findings: &[Finding<'_>],
 ) -> Result<(), AllocError> {
-    if findings.is_empty()
+    if !bag.is_known_whole
+        || findings.is_empty()
         || !findings
             .iter()
             .all(|finding| matches!(finding.number, 5 | 7 | 8))

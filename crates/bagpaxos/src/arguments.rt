@@ -14,6 +14,7 @@ use site_commands::{
     MembersTask, SendTask, SiteTask, members_command, members_task, send_command, send_task,
     site_command, site_task,
 };
+use status_command::{StatusTask, status_command, status_task};
 use std::alloc::{AllocError, Global};
 
 const ABOUT: &str = "Several repositories, each with copies of one collection, agree which bag is a
@@ -52,6 +53,8 @@ pub enum Task<'a> {
     CatchUp(CatchUpTask<'a>),
     /// Read a members file, or write one.
     Members(MembersTask<'a>),
+    /// Say how all sites stand.
+    Status(StatusTask<'a>),
     /// Print what a cell says of each version.
     Ledger(LedgerTask<'a>),
 }
@@ -105,6 +108,12 @@ fn task_in<'a>(alloc: Global, matches: &ArgMatches<'a>) -> Result<Option<Task<'a
     if let Some(catch_up) = matches.subcommand_matches("catch-up") {
         return match catch_up_task(alloc, catch_up)? {
             Some(task) => Ok(Some(Task::CatchUp(task))),
+            None => Ok(None),
+        };
+    }
+    if let Some(status) = matches.subcommand_matches("status") {
+        return match status_task(alloc, status)? {
+            Some(task) => Ok(Some(Task::Status(task))),
             None => Ok(None),
         };
     }
@@ -164,7 +173,8 @@ fn command<'a>(alloc: Global) -> Result<Command<'a>, AllocError> {
     let command = with_subcommand(command, members_command(alloc));
     let command = with_subcommand(command, run_command(alloc));
     let command = with_subcommand(command, send_command(alloc));
-    with_subcommand(command, site_command(alloc))
+    let command = with_subcommand(command, site_command(alloc));
+    with_subcommand(command, status_command(alloc))
 }
 
 fn program<'a>(alloc: Global) -> Command<'a> {

@@ -5,10 +5,13 @@ use outcomes::{ProgramFault, write_output};
 use std::alloc::AllocError;
 use std::io;
 
-/// Whether these words, of which the first is the program's own name, are `help codes`.
+/// Whether these words, of which the first is the program's own name, are `help codes`, and maybe a
+/// code.
 pub fn ask_for_codes(words: &[String]) -> bool {
     match words {
-        [_, help, codes] => help.as_str() == "help" && codes.as_str() == "codes",
+        [_, help, codes, ..] => {
+            help.as_str() == "help" && matches!(codes.as_str(), "codes" | "code")
+        }
         _ => false,
     }
 }

@@ -9,7 +9,7 @@ pub(crate) struct NumberWords {
 }
 
 /// Each argument that is a number.
-pub(crate) static NUMBERS: [NumberWords; 9] = [
+pub(crate) static NUMBERS: [NumberWords; 10] = [
     NumberWords {
         after: "' for '--for <SECONDS>': ",
         words: "seconds are a number from 1 to 4294967295",
@@ -41,6 +41,10 @@ pub(crate) static NUMBERS: [NumberWords; 9] = [
     NumberWords {
         after: "' for '--wait-most <MS>': ",
         words: "milliseconds are a number from 1 to 86400000",
+    },
+    NumberWords {
+        after: "' for '--watch <SECONDS>': ",
+        words: "seconds are a number from 1 to 4294967295",
     },
     NumberWords {
         after: "' for '[V]': ",

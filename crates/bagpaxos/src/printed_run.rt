@@ -32,7 +32,15 @@ fn run_source(rt: &HostRuntime, task: &RunTask<'_>) -> Result<u8, ProgramFault> 
     match task.file {
         None => run_input(rt, task, &mut rt.reader()),
         Some(path) => match File::open(rt, path) {
-            Ok(mut file) => run_input(rt, task, &mut file),
+            Ok(mut file) => match run_input(rt, task, &mut file) {
+                Err(ProgramFault::Input) => {
+                    if task.words {
+                        let _ = say_broken_off(rt, path);
+                    }
+                    Err(ProgramFault::Input)
+                }
+                answer => answer,
+            },
             Err(error) if error.kind() == ErrorKind::OutOfMemory => {
                 write_output(&mut io::writer(rt), 1, "memory\n")
             }
@@ -54,6 +62,19 @@ fn say_unread(rt: &HostRuntime, path: &str, error: &io::Error) -> Result<(), All
         ErrorKind::NotFound => eprintln!(rt; "{name} isn't there"),
         ErrorKind::PermissionDenied => eprintln!(rt; "{name} may not be opened by this user"),
         _ => eprintln!(rt; "{name} can't be opened: {error}"),
+    };
+    Ok(())
+}
+
+// Says why what was opened can't be read to its end.
+fn say_broken_off(rt: &HostRuntime, path: &str) -> Result<(), AllocError> {
+    let mut name = String::new(rt.alloc());
+    push_name(&mut name, path)?;
+    let _ = match fs::metadata(rt, path) {
+        Ok(found) if found.is_dir() => {
+            eprintln!(rt; "{name} is a folder, and a schedule is a file")
+        }
+        _ => eprintln!(rt; "{name} can't be read to its end"),
     };
     Ok(())
 }

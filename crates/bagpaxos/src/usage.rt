@@ -16,12 +16,12 @@ pub(crate) struct Usage {
 pub(crate) const ANY: &str = "bagpaxos <COMMAND> [ARGUMENTS]
 
 Commands: audit, catch-up, check, journal, ledger, members, run, send, site,
-          help";
+          status, help";
 
 /// No argument is one of several.
 const NONE: &str = "";
 
-static USAGES: [Usage; 9] = [
+static USAGES: [Usage; 10] = [
     Usage {
         command: "audit",
         forms: "bagpaxos audit [OPTIONS] --members <FILE> <CELL>...",
@@ -84,6 +84,12 @@ static USAGES: [Usage; 9] = [
                      --wait <MS> (--forever | --turns <T>)",
         missing: "  --turns <T>",
         choices: "  --forever or --turns <T>",
+    },
+    Usage {
+        command: "status",
+        forms: "bagpaxos status [OPTIONS] --members <FILE> [FILE]...",
+        missing: NONE,
+        choices: NONE,
     },
 ];
 

@@ -6,6 +6,7 @@ use code_words::{meaning_of_line, push_name};
 use file_words::{LineSpeaker, push_file_words, say_text};
 use known_bags::{DiskSources, push_source};
 use std::alloc::AllocError;
+use std::fs;
 
 /// What says the lines of versions.
 #[derive(Clone, Copy)]
@@ -44,10 +45,26 @@ impl<'a> VersionSpeaker<'a> {
                 self.push_other(&mut text, object, version)?;
             }
             ["open", object, version] => self.push_open(&mut text, object, version)?,
+            ["0", "of", "0"] => self.push_none(&mut text)?,
             ["memory"] => push_code(self.rt, &mut text, line)?,
             _ => self.push_file(&mut text, line)?,
         }
         Ok(text)
+    }
+
+    // Appends that there was nothing to ask for.
+    fn push_none(&self, text: &mut String) -> Result<(), AllocError> {
+        text.push_str("no file knows a bag, so nobody was asked")?;
+        for path in self.files {
+            if let Ok(found) = fs::metadata(self.rt, path) {
+                if found.is_file() && found.len() == 0 {
+                    text.push_str("; ")?;
+                    push_name(text, path)?;
+                    text.push_str(" is empty")?;
+                }
+            }
+        }
+        Ok(())
     }
 
     // Appends what a line says of the first file that can't be used, if one can't.

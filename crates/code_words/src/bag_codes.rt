@@ -38,17 +38,17 @@ pub static INVALID: [Meaning; 15] = [
     Meaning {
         code: "invalid 6",
         words: "there is no folder data",
-        advice: "put it back from a copy; without any file it is an empty folder",
+        advice: "rename it if its name is nearly right, else put it back from a copy",
     },
     Meaning {
         code: "invalid 7",
         words: "there is no manifest-sha512.txt, from which a bag has its identity",
-        advice: "add one, as docs/MIGRATION.md says",
+        advice: "rename one whose name is nearly right, or add one: docs/MIGRATION.md",
     },
     Meaning {
         code: "invalid 8",
         words: "there is a manifest of another algorithm than md5, sha1, sha256 and sha512",
-        advice: "rename it if its name is nearly right, else keep it elsewhere",
+        advice: "keep it elsewhere, or rename it if that name is free: `--words` says so",
     },
     Meaning {
         code: "invalid 9",
@@ -68,7 +68,7 @@ pub static INVALID: [Meaning; 15] = [
     Meaning {
         code: "invalid 12",
         words: "a listed file isn't there",
-        advice: "put it back from a copy; its line says what was there",
+        advice: "put it back from a copy; the manifest's line says what was there",
     },
     Meaning {
         code: "invalid 13",
@@ -78,7 +78,7 @@ pub static INVALID: [Meaning; 15] = [
     Meaning {
         code: "invalid 14",
         words: "a file isn't the one that was listed: it has another digest",
-        advice: "put back the right one from a copy; its line says what was there",
+        advice: "put back the right one from a copy; the manifest's line says which",
     },
     Meaning {
         code: "invalid 15",

@@ -10,6 +10,9 @@ use words::{first_line, parse_number, parse_text, split_words};
 /// How many bytes a word has at most that is shown.
 const LONGEST_SHOWN: usize = 100;
 
+/// A byte order mark.
+const MARK: &[u8] = b"\xef\xbb\xbf";
+
 /// Appends what is wrong with the line of this number, counted from 1, the first at fault in a text
 /// that is no list of deposits.
 pub(crate) fn push_line_fault(
@@ -19,6 +22,9 @@ pub(crate) fn push_line_fault(
     number: usize,
 ) -> Result<(), AllocError> {
     let line = line_at(list, number);
+    if line.starts_with(MARK) {
+        return text.push_str("it begins with a byte order mark: save it without");
+    }
     let words = split_words(alloc, line)?;
     match words.as_slice() {
         [object, version, path] => push_word_fault(alloc, text, object, version, path)?,

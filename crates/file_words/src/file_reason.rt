@@ -19,8 +19,8 @@ pub(crate) fn push_unread(
     }
     push_name(text, path)?;
     match fs::metadata(rt, path) {
-        Ok(found) if found.is_dir() => text.push_str(" is a folder, and a cell is a file"),
-        Ok(found) if !found.is_file() => text.push_str(" isn't a file, as a cell is"),
+        Ok(found) if found.is_dir() => text.push_str(" is a folder, and no file"),
+        Ok(found) if !found.is_file() => text.push_str(" isn't a file"),
         Ok(_) => match File::open(rt, path) {
             Ok(_) => text.push_str(" can't be read to its end"),
             Err(error) => push_error(text, &error),
@@ -38,17 +38,15 @@ fn push_error(text: &mut String, error: &io::Error) -> Result<(), AllocError> {
     }
 }
 
-/// Appends that the file of this path doesn't begin as a cell does, if it is there and doesn't.
-pub(crate) fn push_other_file(
-    rt: &HostRuntime,
-    text: &mut String,
-    path: &str,
-) -> Result<(), AllocError> {
+/// Appends that the file of this path is empty, or doesn't begin as a cell does, if it is there and
+/// that is so.
+pub fn push_other_file(rt: &HostRuntime, text: &mut String, path: &str) -> Result<(), AllocError> {
     let mut front = [0u8; 3];
     let Ok(mut file) = File::open(rt, path) else {
         return Ok(());
     };
     match file.read(&mut front) {
+        Ok(0) => text.push_str("; it is empty, and a cell has a header at least"),
         Ok(count) if count == front.len() && front.as_slice() != MAGIC => {
             text.push_str("; it doesn't begin as a cell does, so look at the path first")
         }

@@ -4,6 +4,7 @@ use crate::file_reason::{push_other_file, push_unread};
 use crate::line_speaker::{LineSpeaker, say_text};
 use code_words::{meaning_of_line, push_name};
 use std::alloc::AllocError;
+use std::fs;
 
 /// What says the lines of a command that reads one file.
 #[derive(Clone, Copy)]
@@ -55,4 +56,22 @@ pub fn push_file_words(
         return push_other_file(rt, text, path);
     }
     Ok(())
+}
+
+/// Says that a file of which nothing was printed is empty, if it is, and words are asked for.
+pub fn say_if_empty(rt: &HostRuntime, words: bool, path: &str) {
+    if !words {
+        return;
+    }
+    match fs::metadata(rt, path) {
+        Ok(found) if found.is_file() && found.len() == 0 => say_text(rt, empty_words(rt, path)),
+        _ => {}
+    }
+}
+
+fn empty_words(rt: &HostRuntime, path: &str) -> Result<String, AllocError> {
+    let mut text = String::new(rt.alloc());
+    push_name(&mut text, path)?;
+    text.push_str(" is empty, and a cell has a header at least")?;
+    Ok(text)
 }

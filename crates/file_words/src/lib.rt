@@ -13,6 +13,7 @@ mod file_speaker;
 mod line_speaker;
 mod spoken_lines;
 
-pub use file_speaker::{FileSpeaker, push_file_words};
+pub use file_reason::push_other_file;
+pub use file_speaker::{FileSpeaker, push_file_words, say_if_empty};
 pub use line_speaker::{LineSpeaker, say_text};
 pub use spoken_lines::SpokenLines;

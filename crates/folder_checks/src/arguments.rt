@@ -89,7 +89,9 @@ all are checked:
   not among these: OBJ V        no folder is the bag of this version
 and if FILE can't be used, the only line on standard output says why: `open 4`,
 `damaged OFFSET`, `ledger line N`. With --versions standard output has all of
-these lines, after those of the folders.
+these lines, after those of the folders. With --deposits standard output has
+`OBJ V FOLDER` in place of the first of them, for `send --deposits`, and
+standard error all others, those of the folders too.
 
 The exit status is 0 if each folder is a valid bag (with --complete, a complete
 one), and with --registered each is registered and none is missing; 1 for all
@@ -103,7 +105,8 @@ Examples:
   bagpaxos check path/to/bag path/to/another
   bagpaxos check --registered cell.1 bags/*
   find bags -mindepth 1 -maxdepth 1 -print0 | bagpaxos check --from0 -
-  printf '%s\\0' bags/* | xargs -0 -n 100 -P 4 bagpaxos check --named";
+  find bags -mindepth 1 -maxdepth 1 -print0 | xargs -0 -n 500 -P 4 \\
+      sh -c 'printf \"%s\\0\" \"$@\" | bagpaxos check --from0 -' sh";
 
 /// Folders to check.
 #[derive(Debug, Drop)]
@@ -129,6 +132,8 @@ pub struct CheckTask<'a> {
     pub registered: Option<&'a str>,
     /// Whether what that gives is printed, and not said on standard error.
     pub versions: bool,
+    /// Whether nothing is printed but a list of deposits of the registered bags.
+    pub deposits: bool,
 }
 
 impl CheckTask<'_> {
@@ -180,7 +185,8 @@ pub fn check_task<'a>(
         progress: matches.get_flag("progress"),
         quiet: matches.get_flag("quiet"),
         registered: matches.get_str("registered"),
-        versions: matches.get_flag("versions"),
+        versions: matches.get_flag("versions") || matches.get_flag("deposits"),
+        deposits: matches.get_flag("deposits"),
     })
 }
 
@@ -216,7 +222,8 @@ pub fn check_command<'a>(alloc: Global) -> Result<Command<'a>, AllocError> {
     let command = with_flags(command, progress, quiet_argument(alloc)?)?;
     let command = with_flags(command, named_argument(alloc)?, list_argument(alloc)?)?;
     let command = with_flags(command, list0_argument(alloc)?, json_argument(alloc)?)?;
-    with_flags(command, registered, versions_argument(alloc)?)?.arg(folders_argument(alloc)?)
+    let command = with_flags(command, registered, versions_argument(alloc)?)?;
+    with_flags(command, deposits_argument(alloc)?, folders_argument(alloc)?)
 }
 
 fn complete_argument<'a>(alloc: Global) -> Result<Arg<'a>, AllocError> {
@@ -233,6 +240,16 @@ fn versions_argument<'a>(alloc: Global) -> Result<Arg<'a>, AllocError> {
         .action(ArgAction::SetTrue)
         .help("Print that, in place of saying it on standard error")
         .requires_arg("registered")
+}
+
+fn deposits_argument<'a>(alloc: Global) -> Result<Arg<'a>, AllocError> {
+    Arg::new(alloc, "deposits")
+        .long("deposits")
+        .action(ArgAction::SetTrue)
+        .help("Print registered bags alone, for send --deposits")
+        .requires_arg("registered")?
+        .conflicts_with("explain")?
+        .conflicts_with("versions")
 }
 
 fn named_argument<'a>(alloc: Global) -> Result<Arg<'a>, AllocError> {

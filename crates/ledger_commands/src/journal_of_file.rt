@@ -2,7 +2,7 @@
 
 use crate::journal::journal_on;
 use crate::journal_arguments::JournalTask;
-use file_words::{FileSpeaker, SpokenLines};
+use file_words::{FileSpeaker, SpokenLines, say_if_empty};
 use json_lines::JsonLines;
 use ledger::LiveCell;
 use outcomes::{ProgramFault, write_output};
@@ -20,7 +20,10 @@ pub fn print_journal(rt: &HostRuntime, task: &JournalTask<'_>) -> Result<u8, Pro
     match LiveCell::open(rt, task.cell) {
         Ok(mut cell) => match journal_on(rt.alloc(), &mut cell, &mut output) {
             Err(ProgramFault::Input) => write_output(&mut output, 1, UNREAD),
-            answer => answer,
+            answer => {
+                say_if_empty(rt, task.words, task.cell);
+                answer
+            }
         },
         Err(error) if error.kind() == ErrorKind::OutOfMemory => {
             write_output(&mut output, 1, "memory\n")

@@ -2,7 +2,7 @@
 
 use crate::ledger_arguments::LedgerTask;
 use crate::version_lines::ledger_on;
-use file_words::{FileSpeaker, SpokenLines};
+use file_words::{FileSpeaker, SpokenLines, say_if_empty};
 use json_lines::JsonLines;
 use ledger::LiveCell;
 use outcomes::{ProgramFault, write_output};
@@ -20,7 +20,10 @@ pub fn print_ledger(rt: &HostRuntime, task: &LedgerTask<'_>) -> Result<u8, Progr
     match LiveCell::open(rt, task.cell) {
         Ok(mut cell) => match ledger_on(rt.alloc(), &mut cell, &mut output, task.wanted) {
             Err(ProgramFault::Input) => write_output(&mut output, 1, UNREAD),
-            answer => answer,
+            answer => {
+                say_if_empty(rt, task.words, task.cell);
+                answer
+            }
         },
         Err(error) if error.kind() == ErrorKind::OutOfMemory => {
             write_output(&mut output, 1, "memory\n")

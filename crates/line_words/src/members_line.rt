@@ -3,7 +3,7 @@
 use crate::kind::Kind;
 use crate::place_pair::push_pair_words;
 use crate::place_word::push_place_words;
-use crate::schedule_command::{push_comment_words, push_first_fault, push_missing, push_wrong};
+use crate::schedule_command::{push_first_fault, push_missing, push_wrong};
 use crate::schedule_line::push_tab_words;
 use crate::text_lines::line_at;
 use crate::word_text::push_found;
@@ -35,7 +35,7 @@ fn push_federation_words(text: &mut String, words: &[&[u8]]) -> Result<(), Alloc
         "the first line has to be federation F, F being 0 to 18446744073709551615; found ",
     )?;
     push_found(text, words)?;
-    push_comment_words(text, words)
+    push_comment(text, words)
 }
 
 fn push_site_words(
@@ -55,7 +55,7 @@ fn push_site_words(
         return text.push_str(": there is no site, or a blank line before the last");
     };
     if *name != b"site".as_slice() {
-        return push_comment_words(text, words);
+        return push_comment(text, words);
     }
     text.push_str(": ")?;
     push_argument_words(alloc, text, file, number, arguments)
@@ -77,12 +77,12 @@ fn push_argument_words(
         [_, place, ..] if Place::parse(alloc, place)?.is_none() => push_place_words(text, place),
         [_, _, weight, ..] if !Kind::Weight.takes(alloc, weight)? => {
             push_wrong(text, Kind::Weight, weight)?;
-            push_comment_words(text, &[*weight])
+            push_comment(text, &[*weight])
         }
         [_, _, _, left @ ..] if !left.is_empty() => {
             push_found(text, left)?;
             text.push_str(" is too much")?;
-            push_comment_words(text, left)
+            push_comment(text, left)
         }
         [site, place, ..] => push_order_words(alloc, text, file, number, site, place),
         _ => Ok(()),
@@ -128,5 +128,15 @@ fn place_in(alloc: Global, line: &[u8]) -> Result<Option<Place>, AllocError> {
     match words.get(2) {
         Some(word) => Place::parse(alloc, word),
         None => Ok(None),
+    }
+}
+
+// Appends that there are no comments, where these words begin one.
+fn push_comment(text: &mut String, words: &[&[u8]]) -> Result<(), AllocError> {
+    match words.first() {
+        Some(word) if word.first() == Some(&b'#') => {
+            text.push_str("; a members file has no comments")
+        }
+        _ => Ok(()),
     }
 }

@@ -16,7 +16,7 @@ pub fn push_place_words(text: &mut String, word: &[u8]) -> Result<(), AllocError
     }
     if let Ok(host) = IpAddr::parse_ascii(word) {
         push_found(text, &[word])?;
-        return push_host_words(text, host);
+        return push_host_words(text, word, host);
     }
     if !word.contains(&b':') && !word.contains(&b'.') {
         return push_wrong(text, Kind::Port, word);
@@ -92,9 +92,22 @@ fn push_host_kind(text: &mut String, address: Address) -> Result<(), AllocError>
 }
 
 // Appends how a host's address is written with a port.
-fn push_host_words(text: &mut String, host: IpAddr) -> Result<(), AllocError> {
+fn push_host_words(text: &mut String, word: &[u8], host: IpAddr) -> Result<(), AllocError> {
     match host {
         IpAddr::V4(host) => write!(text, " has no port; write {host}:PORT"),
-        IpAddr::V6(host) => write!(text, " has no port; write [{host}]:PORT"),
+        IpAddr::V6(host) => match without_brackets(word) {
+            Some((front, port)) => write!(
+                text,
+                " isn't in brackets; write [{front}]:{port}, or [{host}]:PORT if all of it is the host"
+            ),
+            None => write!(text, " has no port; write [{host}]:PORT"),
+        },
     }
+}
+
+// The host and the port that an address of IPv6 without brackets may be meant to have.
+fn without_brackets(word: &[u8]) -> Option<(IpAddr, u16)> {
+    let (front, port) = str::from_utf8(word).ok()?.rsplit_once(':')?;
+    let host = IpAddr::parse_ascii(front.as_bytes()).ok()?;
+    Some((host, port.parse::<u16>().ok()?))
 }

@@ -9,20 +9,30 @@ const LONGEST: usize = 100;
 /// What a line of a key file begins with.
 const KEY_NAMES: [&[u8]; 2] = [b"sites", b"clients"];
 
-/// Whether these seem to be the words of a line of a key file, of which no more is shown than the
-/// first: what is said may end in a journal that others read.
-pub(crate) fn are_of_key(words: &[&[u8]]) -> bool {
-    match words {
-        [name, _, ..] => KEY_NAMES.iter().any(|it| *it == *name),
-        _ => false,
+/// Appends words between quotes, one space between them. Of a line of a key file it is its name
+/// alone: what is said may end in a journal that others read.
+pub(crate) fn push_found(text: &mut String, words: &[&[u8]]) -> Result<(), AllocError> {
+    match key_name(words) {
+        Some(name) => push_key_line(text, name),
+        None => push_all(text, words),
     }
 }
 
-/// Appends words between quotes, one space between them. Of a line of a key file it is the first.
-pub(crate) fn push_found(text: &mut String, words: &[&[u8]]) -> Result<(), AllocError> {
-    match words {
-        [name, ..] if are_of_key(words) => push_key_line(text, name),
-        _ => push_all(text, words),
+// The name that a line of a key file begins with, if these seem to be the words of such a line,
+// whatever white space is between them.
+fn key_name<'a>(words: &[&'a [u8]]) -> Option<&'a [u8]> {
+    let [first, others @ ..] = words else {
+        return None;
+    };
+    let mut pieces = first
+        .split(|byte| byte.is_ascii_whitespace())
+        .filter(|piece| !piece.is_empty());
+    let name = pieces.next()?;
+    let has_more = pieces.next().is_some() || !others.is_empty();
+    if has_more && KEY_NAMES.iter().any(|it| *it == name) {
+        Some(name)
+    } else {
+        None
     }
 }
 

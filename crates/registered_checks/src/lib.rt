@@ -11,11 +11,14 @@
 
 mod command;
 mod comparison_lines;
+mod deposit_line;
+mod deposit_lines;
 mod equality;
 mod file_checks;
 mod held_bag;
 mod known_checks;
 mod list_checks;
+mod list_speaker;
 mod noted_folders;
 mod notes;
 mod said_checks;
@@ -23,6 +26,7 @@ mod source_checks;
 
 pub use command::check_registered;
 pub use comparison_lines::comparison_text;
+pub use deposit_line::deposit_of_line;
 pub use equality::are_equal;
 pub use file_checks::check_registered_on;
 pub use held_bag::HeldBag;

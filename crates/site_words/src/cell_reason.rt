@@ -33,7 +33,8 @@ pub(crate) fn push_cell_reason(
         Ok(found) if found.is_symlink() => text.push_str(" is a link, and a cell is a file"),
         Ok(_) => text.push_str(" isn't a file, as a cell is"),
         Err(error) if error.kind() == ErrorKind::NotFound => text.push_str(
-            " isn't there, and wasn't made; look at its folder, the mount and --existing",
+            " isn't there, and wasn't made; look at its folder, the room on its disk, the mount and \
+            --existing",
         ),
         Err(error) => push_error(text, &error),
     }

@@ -60,6 +60,9 @@ fn push_hint(text: &mut String, asked: &Asked<'_>, meaning: &Meaning) -> Result<
         if meaning.code == "unread 1" && path.starts_with('/') {
             text.push_str("; or the site takes only paths below the folder of its option --bags")?;
         }
+        if meaning.code == "unread 1" && path.split('/').any(|part| part == "..") {
+            text.push_str("; or it has the option --bags, and takes no path with a part ..")?;
+        }
     }
     if asked.path.is_some() && is_of_folder(meaning) {
         return text.push_str("; `bagpaxos check --words` of that folder says where");
@@ -105,7 +108,10 @@ fn push_folder(text: &mut String, asked: &Asked<'_>, path: &str) -> Result<(), A
     if path.starts_with('/') {
         write!(text, ", as site {site} reads it: ")
     } else {
-        write!(text, ", as site {site} reads it from its own folder: ")
+        write!(
+            text,
+            ", as site {site} reads it from its own folder, or that of its option --bags: "
+        )
     }
 }
 

@@ -1,0 +1,45 @@
+//! Why a list or a cell can't be compared with.
+
+use file_words::{LineSpeaker, push_file_words, say_text};
+use std::alloc::AllocError;
+
+/// What says the line of a list or cell that can't be used. The lines of folders are said elsewhere.
+#[derive(Clone, Copy)]
+pub(crate) struct ListSpeaker<'a> {
+    rt: &'a HostRuntime,
+    /// The path of the list or cell.
+    list: &'a str,
+}
+
+impl<'a> ListSpeaker<'a> {
+    /// What says it, if words are asked for.
+    pub(crate) fn if_asked(
+        rt: &'a HostRuntime,
+        words: bool,
+        list: &'a str,
+    ) -> Option<ListSpeaker<'a>> {
+        if words {
+            Some(ListSpeaker { rt, list })
+        } else {
+            None
+        }
+    }
+
+    fn words_of(&self, line: &str) -> Result<String, AllocError> {
+        let mut text = String::new(self.rt.alloc());
+        let words = line.split(' ').collect::<Vec<&str>>(self.rt.alloc())?;
+        match words.as_slice() {
+            ["open", "4"] | ["damaged", _] | ["ledger", "line", _] => {
+                push_file_words(self.rt, &mut text, self.list, line)?;
+            }
+            _ => {}
+        }
+        Ok(text)
+    }
+}
+
+impl LineSpeaker for ListSpeaker<'_> {
+    fn say(&mut self, line: &str) {
+        say_text(self.rt, self.words_of(line));
+    }
+}
