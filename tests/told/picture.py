@@ -384,6 +384,9 @@ class Picture:
         same("where sites are down", [it for it in spans if it[0][0] in ("gap", "down", "failed")],
              list(self.gaps()))
         same("what sites know", [it for it in spans if it[0][0] == "knows"], list(self.knowledge()))
+        # What comes later is above: a site that is down doesn't look as if it knew.
+        order = [kinds[0] for kinds, *_ in spans if kinds[0] in ("knows", "gap")]
+        same("gaps above what is known", order, sorted(order, key="gap".__eq__))
 
     def gaps(self):
         """From each stop and each failure up to the next start of the site."""

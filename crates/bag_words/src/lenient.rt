@@ -1,5 +1,8 @@
 //! All of a folder that can be read, past what can't.
 
+ghost use Rattle.std.specs.Prelude.{◌≡◌, false};
+ghost use Rattle.bag_tree.specs.Path.{is_read_text};
+
 use crate::unread::{Reason, Unread};
 use bag_check::named_by;
 use bag_digest::{Algorithms, Digests};
@@ -147,12 +150,7 @@ impl Walk<'_> {
         let wanted = wanted_of(files.as_slice());
         let mut known = Vec::new(walk.rt.alloc());
         for path in files {
-            let found = if with_digests || is_read_text(path.as_bytes()) {
-                walk.hash_file(path.as_str(), wanted)?
-            } else {
-                walk.list_file(path.as_str())?
-            };
-            match found {
+            match walk.fact_of(path.as_str(), wanted, with_digests)? {
                 Ok(facts) => known.push(facts)?,
                 Err(reason) => walk.note(path.as_str(), reason)?,
             }
@@ -162,8 +160,23 @@ impl Walk<'_> {
         Ok(Gathered { facts, places })
     }
 
+    fn fact_of(
+        &self,
+        path: &str,
+        wanted: Algorithms,
+        with_digests: bool,
+    ) -> Result<Result<FileFacts, Reason>, AllocError> {
+        if with_digests || is_read_text(path.as_bytes()) {
+            self.hash_file(path, wanted)
+        } else {
+            self.list_file(path)
+        }
+    }
+
     // A file without its digests, if it is there still.
-    fn list_file(&self, path: &str) -> Result<Result<FileFacts, Reason>, AllocError> {
+    fn list_file(&self, path: &str) -> Result<Result<FileFacts, Reason>, AllocError>
+        requires { is_read_text path.now ≡ false }
+    {
         let place = self.path_of(path)?;
         match fs::symlink_metadata(self.rt, place.as_str()) {
             Ok(metadata) if metadata.is_file() => {

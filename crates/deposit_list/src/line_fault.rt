@@ -10,6 +10,9 @@ use words::{first_line, parse_number, parse_text, split_words};
 /// How many bytes a word has at most that is shown.
 const LONGEST_SHOWN: usize = 100;
 
+/// What lines of `ledger` with a bag begin with.
+const LEDGER: [&[u8]; 3] = [b"known", b"pending", b"voted"];
+
 /// A byte order mark.
 const MARK: &[u8] = b"\xef\xbb\xbf";
 
@@ -28,6 +31,10 @@ pub(crate) fn push_line_fault(
     let words = split_words(alloc, line)?;
     match words.as_slice() {
         [object, version, path] => push_word_fault(alloc, text, object, version, path)?,
+        [kind, _, _, _] if LEDGER.iter().any(|it| *it == *kind) => text.push_str(
+            "this is a line of `ledger`; `bagpaxos check --registered` with --deposits makes a list \
+            of deposits of it",
+        )?,
         words => {
             let count = words.len();
             write!(

@@ -5,6 +5,9 @@ use std::alloc::AllocError;
 use std::fs::{self, File};
 use std::io::{self, ErrorKind, Read};
 
+/// What the name of the file beside a cell has after the cell's.
+const SYNCED: &str = ".synced";
+
 /// What a cell begins with.
 const MAGIC: &[u8] = b"BPJ";
 
@@ -41,6 +44,9 @@ fn push_error(text: &mut String, error: &io::Error) -> Result<(), AllocError> {
 /// Appends that the file of this path is empty, or doesn't begin as a cell does, if it is there and
 /// that is so.
 pub fn push_other_file(rt: &HostRuntime, text: &mut String, path: &str) -> Result<(), AllocError> {
+    if path.ends_with(SYNCED) {
+        return text.push_str("; it is what a site leaves beside its cell: give the cell");
+    }
     let mut front = [0u8; 3];
     let Ok(mut file) = File::open(rt, path) else {
         return Ok(());

@@ -3,6 +3,7 @@
 use crate::all_folders::check_all_on;
 use crate::arguments::CheckTask;
 use crate::folder_list::{FolderList, list_bytes, names_in};
+use crate::named::push_escaped_bytes;
 use crate::named_folders::check_names_on;
 use crate::progress::{Progress, Saying};
 use crate::read_folders::{Digests, ReadFolders};
@@ -48,8 +49,31 @@ fn check_listed(
         Err(ReadFault::Memory) => return write_output(&mut output, 1, no_memory(task)),
     };
     match names_in(rt.alloc(), bytes.as_slice(), list.end) {
-        Ok(names) => check_names(rt, task, names.as_slice(), &mut output),
+        Ok(names) => {
+            let answer = check_names(rt, task, names.as_slice(), &mut output);
+            if task.words {
+                say_names(rt, names.as_slice());
+            }
+            answer
+        }
         Err(AllocError) => write_output(&mut output, 1, no_memory(task)),
+    }
+}
+
+// Says which names of a list aren't UTF-8, and so are those of no folder; or that there are none.
+fn say_names(rt: &HostRuntime, names: &[&[u8]]) {
+    if names.is_empty() {
+        let _ = rt.eprintln("the list names no folder");
+    }
+    for name in names {
+        if str::from_utf8(name).is_err() {
+            let mut text = String::new(rt.alloc());
+            if push_escaped_bytes(&mut text, name).is_ok() {
+                let _ = eprintln!(rt;
+                    "{text}: the name isn't UTF-8, so no such folder is read; rename it"
+                );
+            }
+        }
     }
 }
 

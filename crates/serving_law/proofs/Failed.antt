@@ -29,7 +29,7 @@ use Rattle.udp_site.specs.Turns.{deposit_replies}
 use Rattle.serving_law.specs.Disks.{Disk, Blank, Holds, bytes_at, journal, device}
 use Rattle.serving_law.specs.Examples.{Request, recorded}
 use Rattle.serving_law.specs.ExamplesFailed.{WornDisk, worn_device, HasFailed, FailsInADeposit}
-use Rattle.serving_law.specs.Federations.{Step, Starts, new_federation}
+use Rattle.serving_law.specs.Federations.{after_all, Step, Starts, new_federation}
 use Rattle.serving_law.specs.Rules.{MayAll}
 use Rattle.serving_law.proofs.Deaths.{r, its_tables, effect_is, come, is_record, one}
 use Rattle.serving_law.proofs.DiskCalls as disks
@@ -153,7 +153,7 @@ module _ (members : Membership) (is_membership : IsMembership members) (slot : S
   has_failed : (records : List Record) → AreRecords records → (k : ℕ) → 1 ≤ k → k ≤ 2
       → journal owner records ≡ bytes_at (Holds owner (its ∷ [])) k
       → HasFailed members slot bag request.address records
-  unfolding MayAll new_federation
+  unfolding MayAll new_federation after_all
   has_failed records are k from to is = record {
     start = Starts 1 (whole Blank) (site_of (whole (Holds owner [])) [] false);
     step = step;
@@ -199,6 +199,15 @@ module _ (members : Membership) (is_membership : IsMembership members) (slot : S
         ),
       ),
     );
+    renews = (
+      (
+        one members is_membership slot bag request,
+        ([], refl, record { image = at_rest []; told = refl; says = nothing_says owner }),
+        opens Blank [] (opens_new owner is_membership.1),
+      ),
+      ((old, (one members is_membership slot bag request, refl)), tt),
+    );
+    may_come = refl;
     replies = refl;
     has = refl;
   }

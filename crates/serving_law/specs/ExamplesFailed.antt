@@ -14,7 +14,8 @@ use Rattle.dgram.specs.Encoding.{datagram_of}
 use Rattle.site.specs.Sites.{OpenSite}
 use Rattle.serving_law.specs.Disks.{Disk, device}
 use Rattle.serving_law.specs.Examples.{Request, recorded}
-use Rattle.serving_law.specs.Federations.{Step, Happening, Fails, Starts}
+use Rattle.serving_law.specs.Federations.{Step, Happening, Fails, Renews, Starts, new_federation}
+use Rattle.serving_law.specs.Federations.{after_all}
 use Rattle.serving_law.specs.Rules.{IsHistory}
 
 -- A disk of which all is known, and how often it has failed. A call that fails may have done its
@@ -42,8 +43,9 @@ pub record WornAreLikeCells : Type 0 where
       → (worn_device worn).left_since (worn_device worn).moment bytes
       → MayLeave (worn_device worn).image bytes
 
--- Site 1 is started; its device fails as it records the deposit, and it has handed out that reply;
--- its cell recovers to these records; and it is started again, with just these.
+-- Site 1 is started, and may be called again; its device fails as it records the deposit, and it has
+-- handed out that reply, which may still come; its cell recovers to these records; and it is started
+-- again, with just these.
 pub record HasFailed (members : Membership) (slot : SlotName) (bag : BagId) (address : ℕ)
     (records : List Record) : Type 0 where
   pub start : Happening WornDisk
@@ -52,6 +54,9 @@ pub record HasFailed (members : Membership) (slot : SlotName) (bag : BagId) (add
   pub site : OpenSite WornDisk
   pub happens : IsHistory worn_device members
       (start ∷ Fails 1 step 1 0 records ∷ Starts 1 cell site ∷ [])
+  pub renews : IsHistory worn_device members (start ∷ Renews 1 ∷ [])
+  pub may_come : (after_all new_federation (start ∷ Fails 1 step 1 0 records ∷ [])).handed
+      ≡ step.turn.done.posts
   pub replies : step.turn.done.posts
       ≡ (
         address,
