@@ -14,14 +14,16 @@ each:
                     its answer came after MS milliseconds; it has R records, and
                     knows K bags; P of its deposits are for versions whose bag
                     it doesn't know; it has heard no majority for A
-                    milliseconds; another site or the files know L bags, at
-                    least, that it doesn't know
+                    milliseconds; another site, or the files together, know L
+                    bags more
   site S silent     no answer came
 and finally `federation F K of N`: K of its N sites are well. A site is well if
-it answers, lacks nothing, and hears a majority, or has no deposit that waits
-for one. Where nothing happens the sites are silent: then A grows, though all is
-well. While deposits are under way a site may lack some for a moment; --watch
-shows whether that lasts.
+it answers, knows as many bags as the others and the files, and hears a
+majority, or has no deposit that waits for one. How many bags are compared, and
+not which: so sites that were down one after the other may each lack another
+one. Run catch-up after each stop, whatever this says. Where nothing happens the
+sites are silent: then A grows, though all is well. While deposits are under way
+a site may lack some for a moment; --watch shows whether that lasts.
 
 Each FILE is a cell, which may be in use and is never changed, or a list that
 `ledger` printed; a version that one of them knows counts as known elsewhere.

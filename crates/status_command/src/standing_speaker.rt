@@ -69,9 +69,10 @@ impl<'a> StandingSpeaker<'a> {
         let wait = self.wait;
         write!(
             text,
-            "site {site}: three questions had no answer in {wait} ms each: it is down, or is \
-            reading a large bag, or hasn't ended its first turn; or its members file is of another \
-            federation, or its key is another, or one of both has none; or its program is older"
+            "site {site}: three questions had no answer in {wait} ms each: start it, with \
+            --existing, if it is down; or it is reading a large bag, or hasn't ended its first \
+            turn; or its members file is of another federation, or its key is another, or one of \
+            both has none; or its program is older"
         )
     }
 
@@ -87,8 +88,9 @@ impl<'a> StandingSpeaker<'a> {
         if pending != "0" && alone != "0" {
             write!(
                 text,
-                "site {site}: {pending} deposits wait, and it has heard no majority for {alone} \
-                ms: sites with more than half of all weight have to run and to hear each other"
+                "site {site}: it has heard no majority for {alone} ms, and of its deposits this \
+                many wait for one: {pending}; sites with more than half of all weight have to run \
+                and to hear each other"
             )?;
         }
         if lacks != "0" {
@@ -98,9 +100,9 @@ impl<'a> StandingSpeaker<'a> {
             let members = self.members;
             write!(
                 text,
-                "site {site}: {lacks} versions at least are known elsewhere: if that lasts, \
-                `bagpaxos catch-up --members {members} --to {site}` with a list of `ledger` or a \
-                cell of another site brings it up to date"
+                "site {site}: elsewhere more bags are known, by {lacks}: if that lasts, `bagpaxos \
+                catch-up --members {members} --to {site}` with a list of `ledger` or a cell of \
+                another site brings it up to date"
             )?;
         }
         Ok(())
