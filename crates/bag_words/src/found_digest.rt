@@ -7,7 +7,7 @@ use bag_text::Algorithm;
 use code_words::push_name;
 use std::alloc::AllocError;
 use std::fs::File;
-use std::io::Read;
+use std::io::{ErrorKind, Read};
 
 /// A file is read anew for its digest, up to this many pieces: a GiB.
 const MOST_PIECES: u32 = 16384;
@@ -76,6 +76,7 @@ fn digest_in(bag: &Bag<'_, '_>, file: &mut File, algorithm: Algorithm) -> Option
                     .and_then(|digest| Vec::from_slice(bag.rt.alloc(), digest).ok());
             }
             Ok(count) => digester.feed(piece.get(..count)?),
+            Err(error) if error.kind() == ErrorKind::Interrupted => {}
             Err(_) => return None,
         }
     }

@@ -148,13 +148,33 @@ fn draw(rt: &HostRuntime, task: &RunTask<'_>, story: &Story, path: &str) -> Resu
         return Ok(1);
     }
     match fs::write(rt, path, picture.as_str()) {
-        Ok(()) => Ok(0),
+        Ok(()) => {
+            if has_other_ending(path) {
+                let mut name = String::new(rt.alloc());
+                push_name(&mut name, path)?;
+                let _ = eprintln!(
+                    rt; "note: {name} has a picture in SVG; end the name in .svg, or in .html for a page"
+                );
+            }
+            Ok(0)
+        }
         Err(error) => {
             let mut name = String::new(rt.alloc());
             push_name(&mut name, path)?;
             let _ = eprintln!(rt; "error: the picture can't be written to {name}: {error}");
             Ok(1)
         }
+    }
+}
+
+// Whether the name of a picture ends as if it were one of another kind, or a page.
+fn has_other_ending(path: &str) -> bool {
+    match path.rsplit_once('.') {
+        Some((_, ending)) => {
+            let is_ending = !ending.is_empty() && !ending.contains('/');
+            is_ending && ending != "svg" && ending != "html"
+        }
+        None => false,
     }
 }
 

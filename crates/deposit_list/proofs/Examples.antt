@@ -14,7 +14,7 @@ use Rattle.catch_up.specs.Rounds.{question, in_round}
 use Rattle.catch_up.specs.Times.{Beat, Read, Paused, pause_after}
 use Rattle.deposit_list.specs.declared.entry.Entry.{Entry}
 use Rattle.deposit_list.specs.declared.standing.Standing.TheVariants.{Unsent, Unanswered}
-use Rattle.deposit_list.specs.declared.standing.Standing.TheVariants.{Registered}
+use Rattle.deposit_list.specs.declared.standing.Standing.TheVariants.{Registered, Known}
 use Rattle.deposit_list.specs.Standings.{after, by_query}
 use Rattle.deposit_list.specs.Windows.{path_by, IsStep, IsRound, IsAwaited, AreRounds}
 use Rattle.deposit_list.specs.Windows.{AreCutRounds}
@@ -23,6 +23,9 @@ use Rattle.deposit_list.specs.Windows.{AreCutRounds}
 
 abbrev bag : BagId
 bag = record { 0 = 7 ∷ [] }
+
+abbrev other : BagId
+other = record { 0 = 8 ∷ [] }
 
 abbrev path : List ℕ
 path = 47 ∷ 97 ∷ []
@@ -52,6 +55,14 @@ unanswered_where_pending = refl
 -- where it says that it has nothing, also what it has registered is sent again
 pub registered_where_nothing : by_query (Registered bag) query.Nothing ≡ Unsent
 registered_where_nothing = refl
+
+-- Where it knows a bag, what it has registered is known. What it hasn't said that it has registered
+-- is sent again, since only its answer to a deposit names the bag.
+pub registered_where_known : by_query (Registered bag) (query.Known other) ≡ Known other bag
+registered_where_known = refl
+
+pub unanswered_where_known : by_query Unanswered (query.Known bag) ≡ Unsent
+unanswered_where_known = refl
 
 -- where it doesn't answer, nothing is
 pub no_answer : after Unsent None ≡ Unanswered

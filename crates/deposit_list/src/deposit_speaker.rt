@@ -3,7 +3,8 @@
 
 use crate::arguments::DepositsTask;
 use crate::line_fault::push_line_fault;
-use code_words::{meaning_of_line, push_name};
+use crate::listed_path::path_in;
+use code_words::{meaning_of_line, push_name, push_quoted};
 use file_words::{LineSpeaker, say_text};
 use std::alloc::AllocError;
 use std::fs::{self, File};
@@ -74,7 +75,17 @@ impl<'a> DepositSpeaker<'a> {
                 "; or it has more bytes than the site takes, by its option --most-bytes",
             )?;
         }
-        text.push_str("; `bagpaxos check --words` of its folder says where")
+        self.push_check(text, object, version)
+    }
+
+    // Appends the command that says where the bag of a version is at fault.
+    fn push_check(&self, text: &mut String, object: &str, version: &str) -> Result<(), AllocError> {
+        text.push_str("; `bagpaxos check --words ")?;
+        match path_in(self.rt.alloc(), self.list, object, version)? {
+            Some(path) => push_quoted(text, path.as_str())?,
+            None => text.push_str("FOLDER")?,
+        }
+        text.push_str("` says where")
     }
 
     // Appends why a bag that is registered may not be known, if it was waited for.

@@ -16,6 +16,7 @@ mod entry;
 mod entry_text;
 mod line_fault;
 mod listed_deposits;
+mod listed_path;
 mod progress;
 mod rounds;
 mod send_all;

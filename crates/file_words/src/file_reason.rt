@@ -41,21 +41,29 @@ fn push_error(text: &mut String, error: &io::Error) -> Result<(), AllocError> {
     }
 }
 
-/// Appends that the file of this path is empty, or doesn't begin as a cell does, if it is there and
-/// that is so.
+/// Appends that the file of this path isn't a cell, and why, if it is there and that is so.
 pub fn push_other_file(rt: &HostRuntime, text: &mut String, path: &str) -> Result<(), AllocError> {
+    match other_file(rt, path) {
+        Some(reason) => text.push_str(reason),
+        None => Ok(()),
+    }
+}
+
+/// Why the file of this path isn't a cell, after a semicolon: it is empty, or doesn't begin as a
+/// cell does; none if it isn't there, or may be one.
+pub(crate) fn other_file(rt: &HostRuntime, path: &str) -> Option<&'static str> {
     if path.ends_with(SYNCED) {
-        return text.push_str("; it is what a site leaves beside its cell: give the cell");
+        return Some("; it is what a site leaves beside its cell: give the cell");
     }
     let mut front = [0u8; 3];
     let Ok(mut file) = File::open(rt, path) else {
-        return Ok(());
+        return None;
     };
     match file.read(&mut front) {
-        Ok(0) => text.push_str("; it is empty, and a cell has a header at least"),
+        Ok(0) => Some("; it is empty, and a cell has a header at least"),
         Ok(count) if count == front.len() && front.as_slice() != MAGIC => {
-            text.push_str("; it doesn't begin as a cell does, so look at the path first")
+            Some("; it doesn't begin as a cell does, so look at the path first")
         }
-        _ => Ok(()),
+        _ => None,
     }
 }

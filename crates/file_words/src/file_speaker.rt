@@ -1,6 +1,6 @@
 //! What is said of a file that is read.
 
-use crate::file_reason::{push_other_file, push_unread};
+use crate::file_reason::{other_file, push_unread};
 use crate::line_speaker::{LineSpeaker, say_text};
 use code_words::{meaning_of_line, push_name};
 use std::alloc::AllocError;
@@ -51,11 +51,13 @@ pub fn push_file_words(
     };
     push_name(text, path)?;
     text.push_str(": ")?;
-    meaning.push(text)?;
     if line == "damaged 0" {
-        return push_other_file(rt, text, path);
+        if let Some(reason) = other_file(rt, path) {
+            text.push_str(meaning.words)?;
+            return text.push_str(reason);
+        }
     }
-    Ok(())
+    meaning.push(text)
 }
 
 /// Says that a file of which nothing was printed is empty, if it is, and words are asked for.

@@ -9,27 +9,30 @@ const LONGEST: usize = 100;
 /// What a line of a key file begins with.
 const KEY_NAMES: [&[u8]; 2] = [b"sites", b"clients"];
 
+/// What a cell begins with.
+const CELL: &[u8] = b"BPJ";
+
 /// Appends words between quotes, one space between them. Of a line of a key file it is its name
-/// alone: what is said may end in a journal that others read.
+/// alone: what is said may end in a journal that others read. A cell isn't shown either.
 pub(crate) fn push_found(text: &mut String, words: &[&[u8]]) -> Result<(), AllocError> {
-    match key_name(words) {
-        Some(name) => push_key_line(text, name),
-        None => push_all(text, words),
+    if let Some(name) = key_name(words) {
+        return push_key_line(text, name);
+    }
+    match words {
+        [first, ..] if first.starts_with(CELL) => text.push_str("\"BPJ ..\"; this is a cell"),
+        _ => push_all(text, words),
     }
 }
 
 // The name that a line of a key file begins with, if these seem to be the words of such a line,
-// whatever white space is between them.
+// whatever white space is before, between and within them.
 fn key_name<'a>(words: &[&'a [u8]]) -> Option<&'a [u8]> {
-    let [first, others @ ..] = words else {
-        return None;
-    };
-    let mut pieces = first
-        .split(|byte| byte.is_ascii_whitespace())
+    let mut pieces = words
+        .iter()
+        .flat_map(|word| word.split(|byte| byte.is_ascii_whitespace()))
         .filter(|piece| !piece.is_empty());
     let name = pieces.next()?;
-    let has_more = pieces.next().is_some() || !others.is_empty();
-    if has_more && KEY_NAMES.iter().any(|it| *it == name) {
+    if pieces.next().is_some() && KEY_NAMES.contains(&name) {
         Some(name)
     } else {
         None

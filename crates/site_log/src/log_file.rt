@@ -1,5 +1,6 @@
 //! The file of a log.
 
+use code_words::push_name;
 use std::alloc::Global;
 use std::fs::{File, OpenOptions};
 use std::io::{self, ErrorKind, Write};
@@ -18,7 +19,7 @@ impl LogFile {
         match appending(rt, path) {
             Ok(file) => LogFile { file: Some(file) },
             Err(error) => {
-                say(rt, &error);
+                say_unopened(rt, path, &error);
                 LogFile { file: None }
             }
         }
@@ -52,4 +53,19 @@ fn write_line(file: &mut File, line: &str) -> io::Result<()> {
 // Where standard error can't be written either, nobody is told.
 fn say(rt: &HostRuntime, error: &io::Error) {
     let _ = eprintln!(rt; "bagpaxos: the log can't be written, and the site goes on: {error}");
+}
+
+fn say_unopened(rt: &HostRuntime, path: &str, error: &io::Error) {
+    let mut name = String::new(rt.alloc());
+    if push_name(&mut name, path).is_err() {
+        return say(rt, error);
+    }
+    let _ = match error.kind() {
+        ErrorKind::InvalidInput => eprintln!(
+            rt; "bagpaxos: the log can't be written, and the site goes on: {name} isn't a file"
+        ),
+        _ => eprintln!(
+            rt; "bagpaxos: the log can't be written, and the site goes on: {name}: {error}"
+        ),
+    };
 }

@@ -150,6 +150,18 @@ pub and_in_the_next_turn_no_more : (idles (idles under_load 1000000) 1000000).pr
 unfolding with_voter sites_to is_in
 and_in_the_next_turn_no_more = refl
 
+-- if it waits longer for answers, the round goes on after that time
+abbrev waits_for_answers : Pace
+waits_for_answers = record under_load { answer_wait = 1600 }
+
+pub not_after_a_second : (idles waits_for_answers 1000000).prompt ≡ 1
+unfolding with_voter sites_to is_in
+not_after_a_second = refl
+
+pub after_that_time : (idles waits_for_answers 1600000).prompt ≡ 3
+unfolding with_voter sites_to is_in
+after_that_time = refl
+
 -- any turn that isn't prompt goes round as well
 pub other_turns_go_round : (idles (registers (idles connected 600000)) 1000000).prompt ≡ 1
 unfolding with_voter sites_to is_in

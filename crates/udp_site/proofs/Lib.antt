@@ -28,6 +28,7 @@ pub mod RoundExamples
 pub mod RecoveryExamples
 pub mod SignExamples
 pub mod StatusExamples
+pub mod TallyExamples
 pub mod Signs
 pub mod WaitingTurns
 pub mod BatchOfTurns

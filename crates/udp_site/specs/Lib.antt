@@ -13,6 +13,7 @@ pub mod Pace
 pub mod Signs
 pub mod Recoveries
 pub mod Status
+pub mod Tallies
 pub mod Seals
 pub mod Origins
 pub mod UdpPorts

@@ -39,6 +39,7 @@ mod serve_loop;
 mod server;
 mod sign;
 mod status;
+mod tally;
 mod turn;
 mod turn_step;
 mod udp_port;

@@ -6,7 +6,8 @@ ghost use Rattle.udp_site.specs.Pace.{begins, idles, takes, hands, awaits_turns,
 ghost use Rattle.udp_site.specs.Recoveries.{none_handed_on, is_early, hands_on};
 ghost use Rattle.udp_site.specs.Signs.{signal_at};
 ghost use Rattle.udp_site.specs.Status.{asks_status};
-ghost use Rattle.udp_site.specs.inner.Paced.{EndsWait};
+ghost use Rattle.udp_site.specs.Tallies.{ends_counting};
+ghost use Rattle.udp_site.specs.inner.Paced.{EndsWait, WantsCounts};
 
 use crate::contacts::Contacts;
 use crate::origins::Origins;
@@ -15,7 +16,8 @@ use crate::receive_buffer::{ask_for_buffer, buffer_of};
 use crate::recoveries::Recoveries;
 use crate::seals::handed_on;
 use crate::sign::Signal;
-use crate::status::{Counts, Standing, is_status_question, status_answer};
+use crate::status::{Counts, is_status_question, status_answer};
+use crate::tally::Tally;
 use crate::waits::Waits;
 use addresses::Address;
 use fed_types::SiteNo;
@@ -44,16 +46,6 @@ pub(crate) struct PacedSocket<R: Clock + Drop> {
     pace: Pace,
     recoveries: Recoveries,
     tally: Tally,
-}
-
-/// What the site counted last, and when.
-#[derive(Clone, Copy)]
-struct Tally {
-    counts: Option<Counts>,
-    /// When counting began last.
-    began: u64,
-    /// When it ended last.
-    ended: u64,
 }
 
 /// A datagram that was taken.
@@ -108,11 +100,7 @@ impl<R: Clock + Drop> PacedSocket<R> {
             keys: None,
             pace: Pace::new(waits, contacts),
             recoveries: Recoveries::new(),
-            tally: Tally {
-                counts: None,
-                began: 0,
-                ended: 0,
-            },
+            tally: Tally::new(),
         })
     }
 
@@ -200,30 +188,30 @@ impl<R: Clock + Drop> PacedSocket<R> {
         self.pace.awaits_turns(deposits);
     }
 
-    /// Whether it is time to count anew: a hundred times as long as counting took last has passed
-    /// since then.
+    /// Whether it is time to count anew. Then counting begins.
     pub(crate) fn wants_counts(&mut self) -> bool
         ensures pace { self.new.pace ≡ self.old.pace }
         ensures recoveries { self.new.recoveries ≡ self.old.recoveries }
+        ensures tally { (now : ℕ) × WantsCounts self.old.tally self.new.tally now result }
     {
         let Ok(now) = self.moment() else {
             return false;
         };
-        let took = self.tally.ended.saturating_sub(self.tally.began);
-        if now.saturating_sub(self.tally.ended) < took.saturating_mul(100) {
-            return false;
+        let is_due = self.tally.is_due(now);
+        if is_due {
+            self.tally.begins(now);
         }
-        self.tally.began = now;
-        true
+        is_due
     }
 
     /// This is what the site counts.
     pub(crate) fn notes_counts(&mut self, counts: Counts)
         ensures pace { self.new.pace ≡ self.old.pace }
         ensures recoveries { self.new.recoveries ≡ self.old.recoveries }
+        ensures tally { (now : ℕ) × (self.new.tally ≡ ends_counting self.old.tally counts now) }
     {
-        self.tally.counts = Some(counts);
-        self.tally.ended = self.moment().unwrap_or(self.tally.began);
+        let now = self.moment().unwrap_or(self.tally.began);
+        self.tally.ends(counts, now);
     }
 
     // Whether what was taken isn't for the site: a request to recover that comes too early, or a
@@ -264,12 +252,9 @@ impl<R: Clock + Drop> PacedSocket<R> {
         federation: u64,
         own: SiteNo,
     ) -> io::Result<()> {
-        let Some(counts) = self.tally.counts else {
+        let alone = self.pace.alone_for(now);
+        let Some(standing) = self.tally.standing(alone) else {
             return Ok(());
-        };
-        let standing = Standing {
-            counts,
-            alone: self.pace.alone_for(now),
         };
         let bytes = status_answer(alloc, federation, own, &standing)?;
         self.send_to(alloc, to, &bytes)
