@@ -10,10 +10,10 @@ use Rattle.fed_types.specs.declared.bag_id.BagId.{BagId}
 use Rattle.bag_text.specs.declared.algorithm.Algorithm.{Algorithm}
 use Rattle.bag_text.specs.declared.algorithm.Algorithm.TheVariants.{Md5, Sha1, Sha256, Sha512}
 use Rattle.bag_text.specs.ListedFile.{ListedFile}
-use Rattle.bag_digest.specs.declared.algorithms.Algorithms.{Algorithms}
-use Rattle.bag_digest.specs.declared.digests.Digests.{Digests}
-use Rattle.bag_digest.specs.Algorithms.{has_algorithm}
-use Rattle.bag_digest.specs.Digests.{digest_by, is_digest}
+use Rattle.bag_tree.specs.declared.algorithms.Algorithms.{Algorithms}
+use Rattle.bag_tree.specs.declared.digests.Digests.{Digests}
+use Rattle.bag_tree.specs.Algorithms.{has_algorithm}
+use Rattle.bag_tree.specs.Digests.{digest_by, is_digest}
 use Rattle.bag_tree.specs.Tree.{File, Files, payload_exists}
 use Rattle.bag_tree.specs.Facts.{FileFact, TreeFacts, fact_by, fact_of_file, facts_of_tree}
 use Rattle.bag_check.specs.declared.fault.BagFault.{BagFault}

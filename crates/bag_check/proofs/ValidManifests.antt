@@ -13,7 +13,7 @@ use Rattle.bag_text.specs.declared.algorithm.Algorithm.{Algorithm}
 use Rattle.bag_text.specs.declared.algorithm.Algorithm.TheVariants.{Md5, Sha1, Sha256, Sha512}
 use Rattle.bag_text.specs.ListedFile.{ListedFile}
 use Rattle.bag_tree.specs.Path.{is_unsafe, is_payload}
-use Rattle.bag_digest.specs.Digests.{digest_by, is_digest}
+use Rattle.bag_tree.specs.Digests.{digest_by, is_digest}
 use Rattle.bag_tree.specs.Facts.{FileFact, TreeFacts}
 use Rattle.bag_check.specs.declared.manifests.Kind.{Kind}
 use Rattle.bag_check.specs.declared.manifests.Kind.TheVariants.{Payload, Tag}

@@ -5,8 +5,8 @@ use Rattle.std.specs.List.{list_any}
 use Rattle.std.specs.Str.{bytes_eq}
 use Rattle.bag_text.specs.declared.algorithm.Algorithm.{Algorithm}
 use Rattle.bag_text.specs.declared.algorithm.Algorithm.TheVariants.{Md5, Sha1, Sha256, Sha512}
-use Rattle.bag_digest.specs.declared.algorithms.Algorithms.{Algorithms}
-use Rattle.bag_digest.specs.declared.digests.Digests.{Digests}
+use Rattle.bag_tree.specs.declared.algorithms.Algorithms.{Algorithms}
+use Rattle.bag_tree.specs.declared.digests.Digests.{Digests}
 use Rattle.bag_tree.specs.Tree.{Files, payload_exists}
 use Rattle.bag_tree.specs.Facts.{FileFact, TreeFacts, fact_by}
 use Rattle.bag_check.specs.Manifests.{kinds, manifest_name}

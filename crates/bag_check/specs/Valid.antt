@@ -11,7 +11,7 @@ use Rattle.bag_text.specs.Declarations.{IsDeclaration}
 use Rattle.bag_text.specs.ListedFile.{ListedFile}
 use Rattle.bag_text.specs.Manifests.{IsManifest}
 use Rattle.bag_tree.specs.Path.{slash, is_unsafe, is_payload}
-use Rattle.bag_digest.specs.Digests.{digest_by}
+use Rattle.bag_tree.specs.Digests.{digest_by}
 use Rattle.bag_tree.specs.Facts.{FileFact, TreeFacts}
 use Rattle.bag_check.specs.declared.manifests.Kind.{Kind}
 use Rattle.bag_check.specs.declared.manifests.Kind.TheVariants.{Payload, Tag}

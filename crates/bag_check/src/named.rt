@@ -2,8 +2,8 @@ ghost use Rattle.std.specs.Prelude.{◌≡◌};
 ghost use Rattle.bag_check.specs.Named.{asks, asked_by};
 
 use crate::manifests::Kind;
-use bag_digest::Algorithms;
 use bag_text::Algorithm;
+use bag_tree::Algorithms;
 
 /// The algorithms by which a file of this path asks for digests: the manifest's, if the path names
 /// a manifest of either kind, or else none. A check of a tree needs only

@@ -2,7 +2,7 @@
 use Rattle.std.proofs.Common.{◌≡◌, Bool, not, List, [], ◌∷◌, map, refl, ap, ◌∙◌}
 use Rattle.std.specs.Prelude.{codes}
 use Rattle.std.specs.List.{flat_map, AllByRecursion}
-use Rattle.bag_digest.specs.declared.algorithms.Algorithms.{Algorithms}
+use Rattle.bag_tree.specs.declared.algorithms.Algorithms.{Algorithms}
 use Rattle.bag_tree.specs.Path.{payload_folder}
 use Rattle.bag_tree.specs.Tree.{Files}
 use Rattle.bag_tree.specs.Facts.{FileFact, TreeFacts, facts_of_tree}

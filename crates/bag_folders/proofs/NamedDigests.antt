@@ -1,8 +1,8 @@
 -- The facts of files one after another, with the digests that their manifests name.
 use Rattle.std.proofs.Common.{◌≡◌, ℕ, List, [], ◌∷◌, ◌++◌, map, refl}
 use Rattle.std.proofs.lemmas.List.{map-append}
-use Rattle.bag_digest.specs.declared.algorithms.Algorithms.{Algorithms}
-use Rattle.bag_digest.specs.Algorithms.{no_algorithms}
+use Rattle.bag_tree.specs.declared.algorithms.Algorithms.{Algorithms}
+use Rattle.bag_tree.specs.Algorithms.{no_algorithms}
 use Rattle.bag_tree.specs.Tree.{File}
 use Rattle.bag_tree.specs.Facts.{FileFact, fact_by}
 use Rattle.bag_folders.specs.Disk.{IsFactBy}

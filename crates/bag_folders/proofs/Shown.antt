@@ -8,8 +8,8 @@ use Rattle.sha2.specs.Sha512.{sha512 as sha512_of}
 use Rattle.fed_types.specs.declared.bag_id.BagId.{BagId}
 use Rattle.fed_types.specs.Faults.{IsOrFault}
 use Rattle.bag_text.specs.ListedFile.{ListedFile}
-use Rattle.bag_digest.specs.declared.algorithms.Algorithms.{Algorithms}
-use Rattle.bag_digest.specs.Algorithms.{all_algorithms, no_algorithms}
+use Rattle.bag_tree.specs.declared.algorithms.Algorithms.{Algorithms}
+use Rattle.bag_tree.specs.Algorithms.{all_algorithms, no_algorithms}
 use Rattle.bag_tree.specs.Tree.{File}
 use Rattle.bag_tree.specs.Facts.{FileFact, TreeFacts, fact_by}
 use Rattle.bag_check.specs.declared.fault.BagFault.{BagFault}

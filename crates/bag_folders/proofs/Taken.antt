@@ -16,7 +16,7 @@ use Rattle.bag_tree.specs.Facts.{FileFact, fact_by}
 use Rattle.bag_tree.specs.Fault.{RefusesFor}
 use Rattle.bag_tree.specs.Path.{is_read_text}
 use Rattle.bag_tree.specs.Tree.{File, longest_text, fault_of_text}
-use Rattle.bag_digest.specs.declared.algorithms.Algorithms.{Algorithms}
+use Rattle.bag_tree.specs.declared.algorithms.Algorithms.{Algorithms}
 use Rattle.bag_folders.specs.Pieces.{Hashed, with_piece, hashed_with}
 use Rattle.bag_folders.specs.Pieces.{IsReadFault}
 

@@ -1,8 +1,8 @@
 -- What is known of the facts that a disk gives, though no contract knows its bytes.
 use Rattle.std.specs.Prelude.{◌≡◌, ◌⊎◌, ℕ, Bool, true, false, List, map, IsTrue}
 use Rattle.std.specs.Prelude.{Option, Some, None, is_err}
-use Rattle.bag_digest.specs.declared.algorithms.Algorithms.{Algorithms}
-use Rattle.bag_digest.specs.Algorithms.{no_algorithms}
+use Rattle.bag_tree.specs.declared.algorithms.Algorithms.{Algorithms}
+use Rattle.bag_tree.specs.Algorithms.{no_algorithms}
 use Rattle.bag_tree.specs.Tree.{File}
 use Rattle.bag_tree.specs.Facts.{FileFact, TreeFacts, fact_by}
 use Rattle.bag_check.specs.declared.fault.BagFault.{BagFault}

@@ -3,7 +3,7 @@ use Rattle.std.specs.Prelude.{◌≡◌, ◌⊎◌, ℕ, List, ◌++◌}
 use Rattle.bag_tree.specs.declared.fault.TreeFault.{TreeFault}
 use Rattle.bag_tree.specs.declared.fault.TreeFault.TheVariants.{Memory, Device, TextTooLong}
 use Rattle.bag_tree.specs.Tree.{File}
-use Rattle.bag_digest.specs.declared.algorithms.Algorithms.{Algorithms}
+use Rattle.bag_tree.specs.declared.algorithms.Algorithms.{Algorithms}
 
 -- the file with a piece more
 abbrev pub with_piece : File → List ℕ → File

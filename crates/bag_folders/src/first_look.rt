@@ -1,5 +1,5 @@
 ghost use Rattle.std.specs.Prelude.{◌≡◌, ◌≢◌, true, false, IfOk, IfErr, IfSome, string_bytes};
-ghost use Rattle.bag_digest.specs.Algorithms.{no_algorithms};
+ghost use Rattle.bag_tree.specs.Algorithms.{no_algorithms};
 ghost use Rattle.bag_tree.specs.Path.{is_read_text};
 ghost use Rattle.bag_check.specs.Check.{first_fault};
 ghost use Rattle.bag_folders.specs.Disk.{IsFactBy, HasNoDigests, NeedsNoDigest, shows, is_shown};
@@ -11,8 +11,7 @@ use crate::hash_listed::hash_listed;
 use crate::open_bag::OpenBag;
 use crate::watcher::{Silent, Watcher};
 use bag_check::{BagFault, check, named_by};
-use bag_digest::{Algorithms, Digests};
-use bag_tree::{Facts, FileFacts, LONGEST_TEXT, TreeFault, is_read_text};
+use bag_tree::{Algorithms, Digests, Facts, FileFacts, LONGEST_TEXT, TreeFault, is_read_text};
 use std::alloc::{AllocError, Global};
 use std::fs::Files;
 

@@ -8,8 +8,7 @@ use crate::listed_bytes::ListedBytes;
 use crate::open_bag::OpenBag;
 use crate::read_file::hash_watched;
 use crate::watcher::Watcher;
-use bag_digest::Algorithms;
-use bag_tree::{FileFacts, TreeFault};
+use bag_tree::{Algorithms, FileFacts, TreeFault};
 use std::alloc::Global;
 use std::fs::Files;
 

@@ -5,8 +5,7 @@ ghost use Rattle.bag_tree.specs.Fault.{RefusesFor};
 ghost use Rattle.bag_tree.specs.Tree.{longest_text, fault_of_text};
 ghost use Rattle.bag_folders.specs.Pieces.{hashed_with};
 
-use bag_digest::{Algorithms, Digester};
-use bag_tree::{FileFacts, LONGEST_TEXT, TreeFault, is_read_text};
+use bag_tree::{Algorithms, Digester, FileFacts, LONGEST_TEXT, TreeFault, is_read_text};
 use std::alloc::{AllocError, Global};
 use std::marker::Model;
 

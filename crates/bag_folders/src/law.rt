@@ -1,8 +1,8 @@
 //! A law of bags whose digests aren't needed, as the contract of a function that does nothing.
 
 ghost use Rattle.std.specs.Prelude.{◌≡◌, Bool, List, map, IsTrue};
-ghost use Rattle.bag_digest.specs.declared.algorithms.Algorithms.{Algorithms};
-ghost use Rattle.bag_digest.specs.Algorithms.{all_algorithms, no_algorithms};
+ghost use Rattle.bag_tree.specs.declared.algorithms.Algorithms.{Algorithms};
+ghost use Rattle.bag_tree.specs.Algorithms.{all_algorithms, no_algorithms};
 ghost use Rattle.bag_tree.specs.Tree.{File};
 ghost use Rattle.bag_check.specs.Check.{check_of, first_fault};
 ghost use Rattle.bag_check.specs.Complete.{complete_of};

@@ -8,8 +8,7 @@ ghost use Rattle.bag_folders.specs.Pieces.{IsReadFault, most_reads};
 use crate::hash_state::Hashing;
 use crate::watched_file::WatchedFile;
 use crate::watcher::Watcher;
-use bag_digest::Algorithms;
-use bag_tree::{FileFacts, TreeFault};
+use bag_tree::{Algorithms, FileFacts, TreeFault};
 use std::alloc::Global;
 use std::io::{ErrorKind, Read};
 

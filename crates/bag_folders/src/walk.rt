@@ -10,8 +10,7 @@ use crate::hash_listed::hash_listed;
 use crate::open_bag::OpenBag;
 use crate::watcher::{Silent, Watcher};
 use bag_check::named_by;
-use bag_digest::Algorithms;
-use bag_tree::{Facts, TreeFault, is_text_named};
+use bag_tree::{Algorithms, Facts, TreeFault, is_text_named};
 use std::alloc::Global;
 use std::fs::Files;
 

@@ -6,9 +6,9 @@ use Rattle.sha2.specs.Sha256.{sha256}
 use Rattle.sha2.specs.Sha512.{sha512}
 use Rattle.bag_text.specs.declared.algorithm.Algorithm.{Algorithm}
 use Rattle.bag_text.specs.declared.algorithm.Algorithm.TheVariants.{Md5, Sha1, Sha256, Sha512}
-use Rattle.bag_digest.specs.declared.algorithms.Algorithms.{Algorithms}
-use Rattle.bag_digest.specs.Algorithms.{has_algorithm}
-use Rattle.bag_digest.specs.Digests.{digests_by, digests_of, digest_by}
+use Rattle.bag_tree.specs.declared.algorithms.Algorithms.{Algorithms}
+use Rattle.bag_tree.specs.Algorithms.{has_algorithm}
+use Rattle.bag_tree.specs.Digests.{digests_by, digests_of, digest_by}
 
 known : (is : Bool) (digest other : List ℕ) → cond is (Some digest) None ≡ Some other
     → Some digest ≡ Some other

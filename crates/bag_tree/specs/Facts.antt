@@ -1,9 +1,9 @@
 -- What a checker knows of a tree of files.
 use Rattle.std.specs.Prelude.{ℕ, Bool, if◌then◌else◌, List, map, Option, Some, None}
-use Rattle.bag_digest.specs.declared.algorithms.Algorithms.{Algorithms}
-use Rattle.bag_digest.specs.declared.digests.Digests.{Digests}
-use Rattle.bag_digest.specs.Algorithms.{all_algorithms}
-use Rattle.bag_digest.specs.Digests.{digests_by}
+use Rattle.bag_tree.specs.declared.algorithms.Algorithms.{Algorithms}
+use Rattle.bag_tree.specs.declared.digests.Digests.{Digests}
+use Rattle.bag_tree.specs.Algorithms.{all_algorithms}
+use Rattle.bag_tree.specs.Digests.{digests_by}
 use Rattle.bag_tree.specs.Path.{is_read_text}
 use Rattle.bag_tree.specs.Tree.{File, Files, payload_exists}
 

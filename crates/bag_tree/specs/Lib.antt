@@ -1,3 +1,5 @@
+pub mod Algorithms
+pub mod Digests
 pub mod Fault
 pub mod Path
 pub mod Tree

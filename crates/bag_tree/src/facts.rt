@@ -1,9 +1,9 @@
 ghost use Rattle.std.specs.Prelude.{◌≡◌, IfOk};
 ghost use Rattle.bag_tree.specs.Facts.{facts_of_tree};
 
+use crate::algorithms::Algorithms;
 use crate::file_facts::FileFacts;
 use crate::tree::Tree;
-use bag_digest::Algorithms;
 use std::alloc::{AllocError, Global};
 use std::marker::Model;
 

@@ -1,13 +1,14 @@
 ghost use Rattle.std.specs.Prelude.{◌≡◌, true, false, Some, None, IfOk, is_some};
 ghost use Rattle.std.specs.Option.{option_copied, option_map};
 ghost use Rattle.sha2.specs.Sha512.{sha512};
-ghost use Rattle.bag_digest.specs.Digests.{digests_by, digest_by, is_digest};
+ghost use Rattle.bag_tree.specs.Digests.{digests_by, digest_by, is_digest};
 ghost use Rattle.bag_tree.specs.Path.{is_read_text};
 
+use crate::algorithms::Algorithms;
+use crate::digests::Digests;
 use crate::kept_text::KeptText;
 use crate::path::is_read_text;
 use crate::tree::TreeFile;
-use bag_digest::{Algorithms, Digests};
 use bag_text::{Algorithm, HexDigest};
 use std::alloc::{AllocError, Global};
 use std::marker::Model;

@@ -1,8 +1,10 @@
 ghost use Rattle.std.specs.Prelude.{◌≡◌};
-ghost use Rattle.bag_digest.specs.Digests.{digests_by, digest_by, is_digest};
+ghost use Rattle.bag_tree.specs.Digests.{digests_by, digest_by, is_digest};
 ghost use Rattle.sha2.specs.Sha512.{sha512};
 
-use bag_digest::{Algorithms, Digester, Digests, is_digest_of};
+use crate::algorithms::Algorithms;
+use crate::digester::Digester;
+use crate::digests::{Digests, is_digest_of};
 use bag_text::{Algorithm, HexDigest};
 use sha2::{Digest, Sha512};
 use std::marker::Model;
@@ -20,8 +22,8 @@ pub(crate) struct KeptText {
 
 impl Model for KeptText {
     ghost use Rattle.std.specs.Prelude.{◌≡◌};
-    ghost use Rattle.bag_digest.specs.declared.algorithms.Algorithms.{Algorithms};
-    ghost use Rattle.bag_digest.specs.Digests.{digests_by};
+    ghost use Rattle.bag_tree.specs.declared.algorithms.Algorithms.{Algorithms};
+    ghost use Rattle.bag_tree.specs.Digests.{digests_by};
     ghost use Rattle.bag_tree.specs.inner.Kept.{Kept};
 
     ghost Value = { Kept };

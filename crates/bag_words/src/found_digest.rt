@@ -2,8 +2,8 @@
 
 use crate::bag::{ALGORITHMS, Bag};
 use crate::finding::Finding;
-use bag_digest::{Algorithms, Digester};
 use bag_text::Algorithm;
+use bag_tree::{Algorithms, Digester};
 use code_words::push_name;
 use std::alloc::AllocError;
 use std::fs::File;

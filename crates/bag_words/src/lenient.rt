@@ -5,10 +5,10 @@ ghost use Rattle.bag_tree.specs.Path.{is_read_text};
 
 use crate::unread::{Reason, Unread};
 use bag_check::named_by;
-use bag_digest::{Algorithms, Digests};
 use bag_folders::hash_reader;
 use bag_tree::{
-    DEEPEST_PATH, Facts, FileFacts, MOST_FILES, PAYLOAD_FOLDER, TreeFault, is_read_text, part_count,
+    Algorithms, DEEPEST_PATH, Digests, Facts, FileFacts, MOST_FILES, PAYLOAD_FOLDER, TreeFault,
+    is_read_text, part_count,
 };
 use std::alloc::AllocError;
 use std::fs::{self, DirEntry, File};

@@ -10,10 +10,9 @@ ghost use Rattle.folder_checks.specs.Explanations.{unread_line};
 
 use crate::report::Question;
 use crate::verdict::{Verdict, line_of, verdict_of};
-use bag_digest::Algorithms;
 use bag_explain::{explain, explain_gaps};
 use bag_folders::Folders;
-use bag_tree::{Facts, TreeFault};
+use bag_tree::{Algorithms, Facts, TreeFault};
 use counted_writes::{CountedWrite, write_output};
 use outcomes::{ProgramFault, ProgramOutput};
 use std::alloc::{AllocError, Global};

@@ -11,9 +11,8 @@ use crate::explanation::{explain_by, place_line};
 use crate::measure::{Measure, Measured};
 use crate::report::{Detail, Report};
 use crate::verdict::{Verdict, verdict_of};
-use bag_digest::Algorithms;
 use bag_folders::Folders;
-use bag_tree::{Facts, TreeFault};
+use bag_tree::{Algorithms, Facts, TreeFault};
 use std::alloc::{AllocError, Global};
 use std::str;
 

@@ -1,6 +1,6 @@
 -- What a `Hashing` keeps of a file's bytes.
 use Rattle.std.specs.Prelude.{◌≡◌, ℕ, true, false, List}
-use Rattle.bag_digest.specs.declared.algorithms.Algorithms.{Algorithms}
+use Rattle.bag_tree.specs.declared.algorithms.Algorithms.{Algorithms}
 use Rattle.bag_tree.specs.Path.{is_read_text}
 use Rattle.bag_folders.specs.declared.hash_state.Contents.{Contents}
 use Rattle.bag_folders.specs.declared.hash_state.Contents.TheVariants.{Text, Hashed}

@@ -1,6 +1,6 @@
 -- What `FileFacts` keeps of a file's bytes.
 use Rattle.std.specs.Prelude.{ℕ, Bool, true, false, List, Some, None}
-use Rattle.bag_digest.specs.Digests.{digests_by}
+use Rattle.bag_tree.specs.Digests.{digests_by}
 use Rattle.bag_tree.specs.declared.file_facts.Contents.{Contents}
 use Rattle.bag_tree.specs.declared.file_facts.Contents.TheVariants.{Text, Hashed}
 use Rattle.bag_tree.specs.Facts.{FileFact}

@@ -1,4 +1,4 @@
-use Rattle.bag_digest.specs.Algorithms.{no_algorithms}
+use Rattle.bag_tree.specs.Algorithms.{no_algorithms}
 use Rattle.bag_tree.proofs.kept_text.KeptText.new.Goals as goal
 
 pub invariant_of-result : goal.invariant_of-result

@@ -21,11 +21,11 @@ use denote.Triple.Entry.{on_entry, alive}
 use denote.Triple.Spec.{Meets, triple_of}
 use denote.Triple.Table.{entered}
 use denote.Triple.Walked.{says, Stays, walk_of, Walks, ends_at, walked, walk_Meets}
-use Rattle.bag_digest.specs.contracts.fed.Fed.nothing.Key.{name as key}
-use Rattle.bag_digest.specs.contracts.fed.Fed.nothing as f
-use Rattle.bag_digest.specs.contracts.fed.Fed as fed
-use Rattle.bag_digest.proofs.fed.Fed.nothing.Statement as stated
-use Rattle.bag_digest.proofs.fed.Fed.nothing.Code as code
+use Rattle.bag_tree.specs.contracts.fed.Fed.nothing.Key.{name as key}
+use Rattle.bag_tree.specs.contracts.fed.Fed.nothing as f
+use Rattle.bag_tree.specs.contracts.fed.Fed as fed
+use Rattle.bag_tree.proofs.fed.Fed.nothing.Statement as stated
+use Rattle.bag_tree.proofs.fed.Fed.nothing.Code as code
 
 abbrev stayed : Stays (f.ended).signature.params (f.ended).kept
 stayed = tt

@@ -29,11 +29,11 @@ use denote.Triple.Spec.{Meets, triple_of}
 use denote.Triple.Table.{entered}
 use denote.Triple.Walked.{says, stay_none_ref, stay_none_slice, Stays, walk_of, Walks, ends_at}
 use denote.Triple.Walked.{walked, Goes-none_ref, Goes-none_slice, walk_Meets}
-use Rattle.bag_digest.specs.contracts.fed.Fed as fed
-use Rattle.bag_digest.specs.contracts.fed.Fed.with as f
-use Rattle.bag_digest.specs.contracts.fed.Fed.with.Key.{name as key}
-use Rattle.bag_digest.proofs.fed.Fed.with.Statement as stated
-use Rattle.bag_digest.proofs.fed.Fed.with.Code as code
+use Rattle.bag_tree.specs.contracts.fed.Fed as fed
+use Rattle.bag_tree.specs.contracts.fed.Fed.with as f
+use Rattle.bag_tree.specs.contracts.fed.Fed.with.Key.{name as key}
+use Rattle.bag_tree.proofs.fed.Fed.with.Statement as stated
+use Rattle.bag_tree.proofs.fed.Fed.with.Code as code
 
 abbrev stayed : Stays (f.ended).signature.params (f.ended).kept
 stayed = (

@@ -8,9 +8,9 @@ use Rattle.sha2.specs.Sha256.{sha256}
 use Rattle.sha2.specs.Sha512.{sha512}
 use Rattle.bag_text.specs.declared.algorithm.Algorithm.{Algorithm}
 use Rattle.bag_text.specs.declared.algorithm.Algorithm.TheVariants.{Md5, Sha1, Sha256, Sha512}
-use Rattle.bag_digest.specs.declared.algorithms.Algorithms.{Algorithms}
-use Rattle.bag_digest.specs.declared.digests.Digests.{Digests}
-use Rattle.bag_digest.specs.Algorithms.{all_algorithms}
+use Rattle.bag_tree.specs.declared.algorithms.Algorithms.{Algorithms}
+use Rattle.bag_tree.specs.declared.digests.Digests.{Digests}
+use Rattle.bag_tree.specs.Algorithms.{all_algorithms}
 
 -- the wanted digests of a file's bytes, and no other (RFC 1321, FIPS 180-4)
 abbrev pub digests_by : Algorithms → List ℕ → Digests

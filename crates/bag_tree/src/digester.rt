@@ -20,8 +20,8 @@ pub struct Digester {
 }
 
 impl Model for Digester {
-    ghost use Rattle.bag_digest.specs.Digests.{Feed};
-    ghost use Rattle.bag_digest.specs.inner.Taken.{HaveTaken};
+    ghost use Rattle.bag_tree.specs.Digests.{Feed};
+    ghost use Rattle.bag_tree.specs.inner.Taken.{HaveTaken};
 
     ghost Value = { Feed };
 
@@ -32,7 +32,7 @@ impl Model for Digester {
 
 impl Digester {
     ghost use Rattle.std.specs.Prelude.{◌≡◌};
-    ghost use Rattle.bag_digest.specs.Digests.{digests_by, nothing_fed, fed_with};
+    ghost use Rattle.bag_tree.specs.Digests.{digests_by, nothing_fed, fed_with};
 
     /// No byte has come yet, and these digests are wanted.
     pub fn new(wanted: Algorithms) -> Digester

@@ -2,7 +2,7 @@
 use Rattle.std.specs.Prelude.{Bool, true, false, ◌||◌, ◌&&◌}
 use Rattle.bag_text.specs.declared.algorithm.Algorithm.{Algorithm}
 use Rattle.bag_text.specs.declared.algorithm.Algorithm.TheVariants.{Md5, Sha1, Sha256, Sha512}
-use Rattle.bag_digest.specs.declared.algorithms.Algorithms.{Algorithms}
+use Rattle.bag_tree.specs.declared.algorithms.Algorithms.{Algorithms}
 
 -- each of the four
 abbrev pub all_algorithms : Algorithms

@@ -12,8 +12,8 @@ pub struct Algorithms {
 }
 
 impl Algorithms {
-    ghost use Rattle.bag_digest.specs.Algorithms.{all_algorithms, no_algorithms};
-    ghost use Rattle.bag_digest.specs.Algorithms.{has_algorithm, either_of, both_of};
+    ghost use Rattle.bag_tree.specs.Algorithms.{all_algorithms, no_algorithms};
+    ghost use Rattle.bag_tree.specs.Algorithms.{has_algorithm, either_of, both_of};
 
     /// Each of the four.
     pub fn all() -> Algorithms

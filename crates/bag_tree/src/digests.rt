@@ -1,7 +1,7 @@
 ghost use Rattle.std.specs.Prelude.{◌≡◌, ℕ, List};
 ghost use Rattle.std.specs.Option.{option_copied};
-ghost use Rattle.bag_digest.specs.Algorithms.{no_algorithms};
-ghost use Rattle.bag_digest.specs.Digests.{digests_by, digests_of, digest_by, is_digest};
+ghost use Rattle.bag_tree.specs.Algorithms.{no_algorithms};
+ghost use Rattle.bag_tree.specs.Digests.{digests_by, digests_of, digest_by, is_digest};
 
 use crate::algorithms::Algorithms;
 use crate::digester::Digester;

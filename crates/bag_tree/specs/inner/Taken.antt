@@ -7,7 +7,7 @@ use Rattle.sha1.specs.declared.Sha1.{Sha1}
 use Rattle.sha2.specs.Hashers.{Holds256, Holds512}
 use Rattle.sha2.specs.declared.Sha256.{Sha256}
 use Rattle.sha2.specs.declared.Sha512.{Sha512}
-use Rattle.bag_digest.specs.declared.algorithms.Algorithms.{Algorithms}
+use Rattle.bag_tree.specs.declared.algorithms.Algorithms.{Algorithms}
 
 -- the fact, asked only where the test holds
 abbrev pub Where : Bool → Type 0 → Type 0

@@ -1,3 +1,0 @@
-pub mod Algorithms
-pub mod Digests
-pub mod inner
