@@ -11,8 +11,7 @@ use fed_types::{BagId, Members, Slot};
 use lines::Line;
 use records::{Entry, Owner, Record, read_journal};
 use sim_federation::Federation;
-use sim_stations::{RunState, Station};
-use sim_tables::{Datagrams, SeenBags};
+use sim_stations::{Datagrams, RunState, SeenBags, Station};
 use slot_table::ListedRows;
 use std::alloc::{AllocError, Global};
 

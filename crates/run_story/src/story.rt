@@ -2,7 +2,7 @@ use crate::datagram::Datagram;
 use crate::event::{Deed, Event, Outcome};
 use fed_types::{Ballot, Members, Slot};
 use lines::{Line, Reason};
-use sim_tables::Datagrams;
+use sim_stations::Datagrams;
 use slot_table::ListedRows;
 
 /// What became of a datagram.

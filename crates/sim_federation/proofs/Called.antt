@@ -40,14 +40,14 @@ use Rattle.world_law.specs.Networks.{SiteOutcome, step}
 use Rattle.world_law.specs.Networks.{Stop, Start, happens, takes, happening, goes_down, opened}
 use Rattle.world_law.specs.Networks.{stops, starts, replies, Deposit, Ask, Query, Raw}
 use Rattle.world_law.specs.Trees.{tree_at}
-use Rattle.sim_tables.specs.Firsts as firsts
+use Rattle.sim_stations.specs.Firsts as firsts
 use Rattle.world_law.specs.Worlds.{World, mode_of, quorums, after_event, event_at, unless_down}
 use Rattle.world_law.specs.Worlds.{on_start, skips, own_lines, on_raw, on_checked, on_deposit}
 use Rattle.lines.specs.Named.{line_of}
 use Rattle.lines.specs.Notices.{reply_notice}
 use Rattle.world_law.specs.Worlds.{with_line, with_seen, sent_lines, at_member}
-use Rattle.sim_tables.specs.DatagramNumbers as numbers
-use Rattle.sim_tables.specs.DatagramNumbers.{is_named}
+use Rattle.sim_stations.specs.DatagramNumbers as numbers
+use Rattle.sim_stations.specs.DatagramNumbers.{is_named}
 use Rattle.sim_federation.specs.declared.federation.Federation.{Federation}
 use Rattle.sim_federation.specs.Federations.{Represents, IsStation, AreStations, IsSound}
 use Rattle.sim_federation.specs.Inputs.{after, after_input, place_in}

@@ -15,8 +15,8 @@ use Rattle.world_law.specs.Networks.{Deliver, Happening, datagram_at, takes}
 use Rattle.world_law.specs.Worlds.{World, mode_of, quorums, event_at, unless_down}
 use Rattle.world_law.specs.Worlds.{skips, with_named, on_deliver, on_datagram}
 use Rattle.world_law.proofs.Sends.{datagram_is_read, at_number}
-use Rattle.sim_tables.specs.DatagramNumbers as numbers
-use Rattle.sim_tables.specs.DatagramNumbers.{numbered}
+use Rattle.sim_stations.specs.DatagramNumbers as numbers
+use Rattle.sim_stations.specs.DatagramNumbers.{numbered}
 use Rattle.sim_federation.specs.declared.arrival.Arrival.{Arrival}
 use Rattle.sim_federation.specs.declared.federation.Federation.{Federation}
 use Rattle.sim_federation.specs.Federations.{Represents, IsSound}

@@ -4,7 +4,7 @@ use Rattle.std.proofs.Common.{sym, ap, subst, ◌∙◌}
 use Rattle.schedule.specs.declared.fate.Fate.TheVariants.{Whole}
 use Rattle.world_law.specs.Worlds.{World, next_unnamed, on_turn, on_deliver, pumped}
 use Rattle.world_law.proofs.Pumps.{idle_pump}
-use Rattle.sim_tables.specs.DatagramNumbers as numbers
+use Rattle.sim_stations.specs.DatagramNumbers as numbers
 use Rattle.sim_federation.specs.declared.federation.Federation.{Federation}
 use Rattle.sim_federation.specs.Federations.{Represents}
 use Rattle.sim_federation.proofs.Sent.{are_sent_length}

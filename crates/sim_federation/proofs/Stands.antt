@@ -12,7 +12,7 @@ use Rattle.lines.specs.declared.line.Line.{Line}
 use Rattle.world_law.specs.Networks.{Mode, Up, Down, NeedsOpening, Network}
 use Rattle.world_law.specs.Networks.{SiteOutcome, step, takes, reaches, happening}
 use Rattle.world_law.specs.Worlds.{World, quorums, own_lines, sent_lines}
-use Rattle.sim_tables.specs.DatagramNumbers as numbers
+use Rattle.sim_stations.specs.DatagramNumbers as numbers
 use Rattle.sim_federation.specs.declared.federation.Federation.{Federation}
 use Rattle.sim_federation.specs.Federations.{Represents, AreStations, IsSound}
 use Rattle.sim_federation.specs.Inputs.{after}

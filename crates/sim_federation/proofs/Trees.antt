@@ -7,10 +7,10 @@ use Rattle.bag_tree.specs.Tree.{Files, no_files, fault_of_added}
 use Rattle.lines.specs.declared.line.Reason.TheVariants as reasons
 use Rattle.world_law.specs.Trees.{NumberedTree, tree_at}
 use Rattle.world_law.specs.Worlds.{World, with_trees, skips, on_tree, on_folder, on_file, on_added}
-use Rattle.sim_tables.specs.declared.trees.Added.{Added}
-use Rattle.sim_tables.specs.declared.trees.Added.TheVariants.{Done, NoTree, BadFile}
-use Rattle.sim_tables.specs.Changes.{trees_with_folder, trees_with_file, trees_with_file_unless}
-use Rattle.sim_tables.specs.Changes.{outcome_of_adding, outcome_unless}
+use Rattle.sim_stations.specs.declared.trees.Added.{Added}
+use Rattle.sim_stations.specs.declared.trees.Added.TheVariants.{Done, NoTree, BadFile}
+use Rattle.sim_stations.specs.Changes.{trees_with_folder, trees_with_file, trees_with_file_unless}
+use Rattle.sim_stations.specs.Changes.{outcome_of_adding, outcome_unless}
 use Rattle.sim_federation.specs.declared.federation.Federation.{Federation}
 use Rattle.sim_federation.specs.Federations.{Represents}
 

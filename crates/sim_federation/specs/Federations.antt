@@ -9,8 +9,8 @@ use Rattle.sim_stations.specs.Stations as stations
 use Rattle.world_law.specs.Networks.{Network, SiteState, new_site}
 use Rattle.world_law.specs.WellFormed.{MembersAreSites, IsWellFormed}
 use Rattle.world_law.specs.Worlds.{World, quorums}
-use Rattle.sim_tables.specs.Firsts as firsts
-use Rattle.sim_tables.specs.DatagramNumbers as numbers
+use Rattle.sim_stations.specs.Firsts as firsts
+use Rattle.sim_stations.specs.DatagramNumbers as numbers
 use Rattle.sim_federation.specs.declared.federation.Federation.{Federation}
 use Rattle.sim_federation.specs.Sent.{AreSent}
 

@@ -8,7 +8,7 @@ ghost use Rattle.sim_federation.specs.Federations.{Represents};
 use crate::federation::Federation;
 use lines::Reason;
 use schedule::TreeNo;
-use sim_tables::Added;
+use sim_stations::Added;
 use std::alloc::AllocError;
 
 impl Federation {

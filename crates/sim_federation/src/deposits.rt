@@ -10,7 +10,7 @@ ghost use Rattle.bag_check.specs.declared.fault.BagFault.{BagFault};
 ghost use Rattle.lines.specs.Named.{SeenBag};
 ghost use Rattle.world_law.specs.Trees.{tree_at};
 ghost use Rattle.world_law.specs.Worlds.{World, on_deposit, on_checked};
-ghost use Rattle.sim_tables.specs.Firsts as firsts;
+ghost use Rattle.sim_stations.specs.Firsts as firsts;
 ghost use Rattle.sim_federation.specs.Federations.{Represents};
 ghost use Rattle.sim_federation.specs.Seen.{seen_with};
 
@@ -20,8 +20,7 @@ use bag_tree::{Facts, facts_of};
 use fed_types::{BagId, Slot, bags_are_well_formed, slots_are_well_formed};
 use lines::Reason;
 use schedule::{Fate, TreeNo};
-use sim_stations::SiteCall;
-use sim_tables::SeenBags;
+use sim_stations::{SeenBags, SiteCall};
 use std::alloc::AllocError;
 
 impl Federation {

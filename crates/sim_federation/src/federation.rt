@@ -6,8 +6,7 @@ ghost use Rattle.sim_federation.specs.Federations.{Represents, AreNew, IsStation
 use fed_types::{Members, SiteNo, members_are_well_formed};
 use lines::Line;
 use records::Owner;
-use sim_stations::Station;
-use sim_tables::{Datagrams, SeenBags, Trees};
+use sim_stations::{Datagrams, SeenBags, Station, Trees};
 use std::alloc::{AllocError, Global};
 
 /// A federation as a schedule makes it: its sites, the datagrams that they sent, each by the place

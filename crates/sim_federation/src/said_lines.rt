@@ -3,13 +3,13 @@
 ghost use Rattle.std.specs.Prelude.{◌≡◌, ◌++◌, List, OnOk};
 ghost use Rattle.lines.specs.Named.{SeenBag, line_of, tree_of};
 ghost use Rattle.world_law.specs.Worlds.{World, own_lines, with_line, skips};
-ghost use Rattle.sim_tables.specs.Firsts as firsts;
+ghost use Rattle.sim_stations.specs.Firsts as firsts;
 ghost use Rattle.sim_federation.specs.Federations.{Represents};
 
 use crate::federation::Federation;
 use fed_types::BagId;
 use lines::{Line, Notice, Reason, line_of};
-use sim_tables::SeenBags;
+use sim_stations::SeenBags;
 use std::alloc::AllocError;
 
 impl Federation {

@@ -2,11 +2,11 @@
 
 ghost use Rattle.std.specs.Prelude.{◌≡◌, ◌++◌, ◌+◌, ◌∷◌, [], length, map, OnOk, get_or};
 ghost use Rattle.site.specs.Datagrams.{handed_out};
-ghost use Rattle.sim_tables.specs.DatagramNumbers.{RepresentsSame};
+ghost use Rattle.sim_stations.specs.DatagramNumbers.{RepresentsSame};
 ghost use Rattle.sim_federation.specs.Sent.{line_sent, lines_sent, places_from, SENDER_PLACE};
 
 use lines::{Line, SentBytes};
-use sim_tables::Datagrams;
+use sim_stations::Datagrams;
 use site::Outgoing;
 use std::alloc::AllocError;
 

@@ -7,3 +7,8 @@ pub mod Modes
 pub mod Stations
 pub mod Owners
 pub mod Fates
+-- the tables of a run
+pub mod Changes
+pub mod Places
+pub mod Firsts
+pub mod DatagramNumbers

@@ -1,6 +1,6 @@
 use Rattle.std.proofs.Common.{◌≡◌, ◌+◌, ◌++◌, length, map}
 use Rattle.site.specs.Datagrams.{handed_out}
-use Rattle.sim_tables.specs.DatagramNumbers.{RepresentsSame}
+use Rattle.sim_stations.specs.DatagramNumbers.{RepresentsSame}
 use Rattle.sim_federation.specs.Sent.{lines_sent, places_from}
 use Rattle.sim_federation.proofs.sends.send_all.Given as goal
 

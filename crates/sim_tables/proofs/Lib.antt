@@ -1,6 +1,0 @@
-pub mod Seen
-pub mod Named
-pub mod Found
-pub mod Places
-pub mod Puts
-pub mod Ordered

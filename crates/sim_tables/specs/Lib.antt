@@ -1,4 +1,0 @@
-pub mod Changes
-pub mod Places
-pub mod Firsts
-pub mod DatagramNumbers
