@@ -10,8 +10,8 @@ use dgram::{Message, decode};
 use fed_types::{BagId, Members, Slot};
 use lines::Line;
 use records::{Entry, Owner, Record, read_journal};
-use sim_federation::Federation;
 use sim_stations::{Datagrams, RunState, SeenBags, Station};
+use simulator::Federation;
 use slot_table::ListedRows;
 use std::alloc::{AllocError, Global};
 

@@ -6,7 +6,7 @@ use crate::planned::{event_at, event_of, slot_in};
 use crate::story::Story;
 use records::Entry;
 use schedule::{Command, Schedule};
-use sim_federation::Federation;
+use simulator::Federation;
 use std::alloc::{AllocError, Global};
 
 /// Runs a schedule, and says what happened. It fails only if memory runs out.

@@ -1,2 +1,13 @@
+pub mod Answers
+pub mod Sent
+pub mod Places
+pub mod Stands
+pub mod Sound
+pub mod Trees
+pub mod Arrivals
+pub mod Called
+pub mod Named
+pub mod Delivered
+pub mod Pumped
 pub mod LineByLine
 pub mod TextOfLines

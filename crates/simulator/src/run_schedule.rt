@@ -3,9 +3,9 @@ ghost use Rattle.world_law.specs.Headline.{LinesAgree, ReportsWereDeposited};
 ghost use Rattle.world_law.specs.Worlds.{run_of};
 
 use crate::fault::RunFault;
+use crate::federation::Federation;
 use crate::trace::Trace;
 use schedule::Schedule;
-use sim_federation::Federation;
 use std::alloc::Global;
 
 /// Runs a schedule: the lines are those of the reference run. No two of them report different bags

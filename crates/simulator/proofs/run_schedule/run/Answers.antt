@@ -2,7 +2,7 @@ use Rattle.std.proofs.Common.{◌≡◌, ◌<◌, ◌≤◌, length, take, get_o
 use Rattle.world_law.specs.Headline.{LinesAgree, ReportsWereDeposited}
 use Rattle.world_law.specs.Worlds.{World, new_world, run_from}
 use Rattle.world_law.proofs.Promised as laws
-use Rattle.sim_federation.specs.Federations.{Represents}
+use Rattle.simulator.specs.Federations.{Represents}
 use Rattle.simulator.proofs.LineByLine.{run_from-none, run_from-more, run_from-all}
 use Rattle.simulator.proofs.run_schedule.run.Goals as goal
 

@@ -1,6 +1,6 @@
 use Rattle.std.proofs.Common.{take}
 use Rattle.world_law.specs.Worlds.{new_world, run_from}
-use Rattle.sim_federation.specs.Federations.{Represents}
+use Rattle.simulator.specs.Federations.{Represents}
 use Rattle.simulator.proofs.run_schedule.run.Given as goal
 
 -- the federation stands for the world after the lines so far

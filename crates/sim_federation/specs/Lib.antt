@@ -1,4 +1,0 @@
-pub mod Sent
-pub mod Seen
-pub mod Inputs
-pub mod Federations
