@@ -4,8 +4,7 @@ use crate::json::{push_name, push_number, push_string};
 use fed_types::Ballot;
 use lines::{Options, push_line};
 use records::Entry;
-use run_story::{Event, Outcome, Story};
-use run_words::{is_told, push_event};
+use run_story::{Event, Outcome, Story, is_told, push_event};
 use std::alloc::{AllocError, Global};
 
 /// Appends the events that words are made of, each with its row in the picture.

@@ -1,6 +1,6 @@
 //! The command of an event, as a schedule has it.
 
-use run_story::{Deed, Event};
+use crate::event::{Deed, Event};
 use schedule::{DeviceCall, Fate};
 
 /// What it asks for.

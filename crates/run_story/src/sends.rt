@@ -1,6 +1,7 @@
 //! What an event sent.
 
-use run_story::{Event, Scene};
+use crate::event::Event;
+use crate::scene::Scene;
 use std::alloc::AllocError;
 
 /// Appends the datagrams that the event sent, all of one message, if it sent any.

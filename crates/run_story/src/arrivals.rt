@@ -1,6 +1,9 @@
 //! Datagrams that arrive.
 
-use run_story::{Count, Datagram, Kind, Outcome, Scene};
+use crate::datagram::{Datagram, Kind};
+use crate::event::Outcome;
+use crate::scene::Scene;
+use crate::story::Count;
 
 /// What a site did with a datagram that it heard.
 pub(crate) fn heard(scene: &Scene<'_>, datagram: &Datagram) -> &'static str {

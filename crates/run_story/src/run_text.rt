@@ -2,12 +2,15 @@
 
 use crate::arrivals::{consequence, heard};
 use crate::commands::{command, fate};
+use crate::datagram::Datagram;
+use crate::event::{Deed, Event, Outcome};
 use crate::outcomes::{interruption, kept, outcome};
+use crate::scene::Scene;
 use crate::sends::push_sends;
 use crate::skips::skip;
 use crate::stops::stop;
+use crate::story::{Passage, Story};
 use lines::{Options, push_line};
-use run_story::{Datagram, Deed, Event, Outcome, Passage, Scene, Story};
 use std::alloc::{AllocError, Global};
 
 /// A run in words. A printed line comes below the words of its event, as it is printed.

@@ -1,7 +1,8 @@
 //! The outcomes of events other than arrivals.
 
+use crate::event::{Deed, Event, Outcome};
+use crate::scene::Scene;
 use records::Entry;
-use run_story::{Deed, Event, Outcome, Scene};
 
 /// What came of it.
 pub(crate) fn outcome(scene: &Scene<'_>) -> &'static str {

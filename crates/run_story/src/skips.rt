@@ -1,7 +1,7 @@
 //! Events that couldn't apply.
 
+use crate::event::{Deed, Event};
 use lines::Reason;
-use run_story::{Deed, Event};
 
 /// Why an event couldn't apply.
 pub(crate) fn skip(event: &Event, reason: Reason) -> &'static str {

@@ -1,6 +1,6 @@
 //! Sites that stop.
 
-use run_story::Event;
+use crate::event::Event;
 use schedule::{DeviceCall, Fate};
 
 /// How a site stopped.
