@@ -1,6 +1,6 @@
 //! The first line at fault of a text that is no schedule, in words.
 
-use line_words::push_schedule_words;
+use code_words::push_schedule_words;
 use schedule::{ParseFault, parse};
 use std::alloc::AllocError;
 

@@ -5,13 +5,13 @@ use crate::clock_timer::ClockTimer;
 use crate::rounds::{Target, catch_up_on};
 use crate::sites::{SiteToAsk, Sites, sites_for};
 use crate::version_speaker::VersionSpeaker;
+use code_words::{Asked, SpokenOutput};
 use counted_writes::CountedWriter;
 use file_words::SpokenLines;
 use json_lines::JsonLines;
 use known_bags::{DiskSources, KnownBag, push_sources, write_fault};
 use outcomes::ProgramFault;
 use site_commands::{Stop, write_stop};
-use site_words::{Asked, SpokenOutput};
 use std::io;
 use std::io::Write;
 

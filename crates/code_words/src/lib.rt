@@ -1,33 +1,56 @@
 //! The codes that the program prints, with what each says and what to do about it. The words of
-//! `--words`, `help codes` and docs/CODES.md come from this one table.
+//! `--words`, `help codes` and docs/CODES.md come from this one table. And the words that stand
+//! around them: what is wrong with a line of a schedule or of a members file, what was wanted, and
+//! what was found; and what the lines of `site` and `send` say, for their `--words`, with the names
+//! of the files, the port and the folder that they are about.
 //!
 //! ```
-//! let Some(meaning) = meaning_of_line(rt.alloc(), line)? else {
-//!     return Ok(());
-//! };
-//! push_subject(text, asked, line, meaning)?;
-//! meaning.push(text)?;
+//! match meaning_of_line(rt.alloc(), line)? {
+//!     Some(meaning) => meaning.push(text),
+//!     None => Ok(()),
+//! }
 //! ```
 #![tactic(auto)]
 
+mod asked;
 mod bag_codes;
 mod cell_codes;
+mod cell_reason;
 mod code_of_line;
+mod federation_line;
+mod file_reason;
+mod form;
+mod kind;
+mod line_reason;
 mod meaning;
+mod members_line;
+mod members_reason;
 mod name;
 mod of_line;
 mod other_codes;
+mod place_pair;
+mod place_word;
 mod refusal_codes;
 mod row;
 mod schedule_codes;
+mod schedule_command;
+mod schedule_line;
+mod spoken_output;
 mod table;
+mod text_lines;
+mod word_text;
 
+pub use asked::Asked;
 pub use bag_codes::{INVALID, UNREAD, invalid, unread};
 pub use cell_codes::{OPEN, STOPPED};
 pub use meaning::Meaning;
 pub use name::{push_name, push_quoted};
 pub use of_line::meaning_of_line;
 pub use other_codes::OTHERS;
+pub use place_pair::push_pair_words;
+pub use place_word::push_place_words;
 pub use refusal_codes::REFUSED;
 pub use schedule_codes::SKIPPED;
+pub use schedule_line::push_schedule_words;
+pub use spoken_output::SpokenOutput;
 pub use table::push_table;

@@ -8,11 +8,11 @@ use crate::deposit_speaker::DepositSpeaker;
 use crate::progress::Progress;
 use crate::send_all::send_all_on;
 use catch_up::{ClockTimer, SiteToAsk, Sites, Target, sites_for};
+use code_words::{Asked, SpokenOutput};
 use counted_writes::CountedWriter;
 use file_words::SpokenLines;
 use outcomes::{ProgramFault, ReadFault, read_all, write_output};
 use site_commands::{Stop, write_stop};
-use site_words::{Asked, SpokenOutput};
 use std::fs::File;
 use std::io::{self, ErrorKind, IsTerminal, Printer, Write};
 

@@ -1,7 +1,7 @@
 //! Sites as the words of an argument.
 
+use code_words::{push_pair_words, push_place_words};
 use fed_types::{GREATEST_WEIGHT, MOST_MEMBERS};
-use line_words::{push_pair_words, push_place_words};
 use members_file::{ListedSite, Place};
 use std::alloc::{AllocError, Global};
 use std::net::SocketAddr;

@@ -3,13 +3,13 @@
 use crate::arguments::StatusTask;
 use crate::sites::{Federation, federation_at};
 use crate::standing_speaker::StandingSpeaker;
+use code_words::{Asked, SpokenOutput};
 use counted_writes::{CountedWriter, write_output};
 use file_words::SpokenLines;
 use json_lines::JsonLines;
 use known_bags::{DiskSources, SourceFault, push_sources, write_fault};
 use outcomes::ProgramFault;
 use site_commands::{Stop, write_stop};
-use site_words::{Asked, SpokenOutput};
 use standings::{report_standings, versions_in};
 use std::alloc::AllocError;
 use std::io::{self, Write};

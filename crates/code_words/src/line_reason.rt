@@ -3,8 +3,10 @@
 use crate::asked::Asked;
 use crate::cell_reason::{push_cell_reason, push_other_file};
 use crate::file_reason::push_file_reason;
+use crate::meaning::Meaning;
 use crate::members_reason::{place_of, push_line_reason, push_stranger};
-use code_words::{Meaning, meaning_of_line, push_name};
+use crate::name::push_name;
+use crate::of_line::meaning_of_line;
 use members_file::Place;
 use std::alloc::AllocError;
 

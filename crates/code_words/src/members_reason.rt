@@ -2,8 +2,8 @@
 
 use crate::asked::Asked;
 use crate::file_reason::bytes_at;
-use code_words::push_name;
-use line_words::push_members_words;
+use crate::members_line::push_members_words;
+use crate::name::push_name;
 use members_file::{Place, read_members};
 use std::alloc::AllocError;
 

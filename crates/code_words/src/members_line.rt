@@ -13,7 +13,7 @@ use words::{parse_number, split_words};
 
 /// Appends what is wrong with the line of this number, counted from 1, the first at fault in a text
 /// that is no members file: `line 3: "b:5002" isn't a port, 1 to 65535 ..`.
-pub fn push_members_words(
+pub(crate) fn push_members_words(
     alloc: Global,
     text: &mut String,
     file: &[u8],

@@ -1,6 +1,6 @@
 //! Words of a line, as a person reads them.
 
-use code_words::push_name;
+use crate::name::push_name;
 use std::alloc::AllocError;
 
 /// How many bytes of a word are shown.

@@ -1,7 +1,7 @@
 //! Why a cell can't be opened.
 
 use crate::file_reason::{bytes_at, push_error};
-use code_words::push_name;
+use crate::name::push_name;
 use std::alloc::AllocError;
 use std::fs::{self, File, TryLockError};
 use std::io::ErrorKind;

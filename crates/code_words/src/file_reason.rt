@@ -1,6 +1,6 @@
 //! Why a file can't be used.
 
-use code_words::push_name;
+use crate::name::push_name;
 use std::alloc::AllocError;
 use std::fs::{self, File};
 use std::io::{self, ErrorKind, Read};
