@@ -4,7 +4,7 @@
 use crate::arguments::DepositsTask;
 use crate::line_fault::push_line_fault;
 use crate::listed_path::path_in;
-use code_words::{meaning_of_line, push_name, push_quoted};
+use code_words::{meaning_of_line, push_name};
 use file_words::{LineSpeaker, say_text};
 use std::alloc::AllocError;
 use std::fs::{self, File};
@@ -66,26 +66,32 @@ impl<'a> DepositSpeaker<'a> {
             return Ok(());
         };
         push_slot(text, object, version)?;
-        meaning.push(text)?;
         if meaning.code.starts_with("refused ") {
-            return Ok(());
+            return meaning.push(text);
         }
+        self.push_folder(text, object, version)?;
+        meaning.push(text)?;
         if meaning.code == "unread 4" {
             text.push_str(
                 "; or it has more bytes than the site takes, by its option --most-bytes",
             )?;
         }
-        self.push_check(text, object, version)
+        text.push_str("; `bagpaxos check --words` of that folder says where")
     }
 
-    // Appends the command that says where the bag of a version is at fault.
-    fn push_check(&self, text: &mut String, object: &str, version: &str) -> Result<(), AllocError> {
-        text.push_str("; `bagpaxos check --words ")?;
-        match path_in(self.rt.alloc(), self.list, object, version)? {
-            Some(path) => push_quoted(text, path.as_str())?,
-            None => text.push_str("FOLDER")?,
-        }
-        text.push_str("` says where")
+    // Appends the folder that the list has for a version, and who reads it.
+    fn push_folder(
+        &self,
+        text: &mut String,
+        object: &str,
+        version: &str,
+    ) -> Result<(), AllocError> {
+        let Some(path) = path_in(self.rt.alloc(), self.list, object, version)? else {
+            return Ok(());
+        };
+        push_name(text, path.as_str())?;
+        let site = self.task.to.number();
+        write!(text, ", as site {site} reads it: ")
     }
 
     // Appends why a bag that is registered may not be known, if it was waited for.

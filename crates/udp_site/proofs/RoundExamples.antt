@@ -16,7 +16,7 @@ use Rattle.site.specs.declared.fault.SiteFault.TheVariants as faults
 use Rattle.site.specs.Calls.{Input}
 use Rattle.site_tables.specs.Contents.{deposits_of}
 use Rattle.udp_site.specs.Rounds.{next_waiting}
-use Rattle.udp_site.specs.Status.{waiting_before, counts_of}
+use Rattle.udp_site.specs.Status.{waiting_before, waiting_from, counts_of}
 use Rattle.udp_site.specs.Turns.{Serving, Done, idles, proposes_next, proposes, tries}
 use Rattle.udp_site.specs.Turns.{begins, others}
 use Rattle.udp_site.specs.Turns.{proposal_notices, recovery_notices}
@@ -62,6 +62,23 @@ three_wait = refl
 pub two_wait : counts_of first_known ≡ record { records = 5; known = 1; pending = 2 }
 unfolding waiting_before deposits_of same_slot known_of
 two_wait = refl
+
+-- those that come from a place on: the port is told how many, up to 32
+pub three_come : waiting_from deposits 0 ≡ 3
+unfolding waiting_before deposits_of same_slot known_of
+three_come = refl
+
+pub the_last_comes : waiting_from deposits 2 ≡ 1
+unfolding waiting_before deposits_of same_slot known_of
+the_last_comes = refl
+
+pub none_comes : waiting_from deposits 3 ≡ 0
+unfolding waiting_before deposits_of same_slot known_of
+none_comes = refl
+
+pub known_does_not_come : waiting_from first_known 0 ≡ 2
+unfolding waiting_before deposits_of same_slot known_of
+known_does_not_come = refl
 
 -- not one whose bag is known
 pub known_is_left_out : next_waiting first_known 0 ≡ Some 1

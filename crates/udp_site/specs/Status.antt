@@ -1,5 +1,5 @@
 -- How a site stands: what it counts, the question for it, and the answer.
-use Rattle.std.specs.Prelude.{ℕ, zero, suc, ◌+◌, Bool, true, false, List, [], ◌∷◌, ◌++◌, length, replicate}
+use Rattle.std.specs.Prelude.{ℕ, zero, suc, ◌+◌, ◌-◌, min, Bool, true, false, List, [], ◌∷◌, ◌++◌, length, replicate}
 use Rattle.std.specs.Prelude.{Option, Some, None, if◌then◌else◌}
 use Rattle.std.specs.Int.{w64, to_be_bytes}
 use Rattle.std.specs.List.{count_by}
@@ -13,6 +13,7 @@ use Rattle.records.specs.declared.entry.Entry.TheVariants.{Known}
 use Rattle.udp_site.specs.declared.contacts.Contacts.{Contacts}
 use Rattle.udp_site.specs.declared.status.Counts.{Counts}
 use Rattle.udp_site.specs.declared.status.Standing.{Standing}
+use Rattle.udp_site.specs.Pace.{most_together}
 use Rattle.udp_site.specs.Rounds.{waits}
 
 -- ---- what is counted
@@ -26,6 +27,11 @@ unfoldable pub waiting_before : List Record → (place : ℕ) → ℕ
 waiting_before records zero = 0
 waiting_before records (suc place) =
     waiting_before records place + (if waits records place then 1 else 0)
+
+-- how many come from this place on, up to as many as are proposed together
+abbrev pub waiting_from : List Record → (from : ℕ) → ℕ
+waiting_from records from =
+    min most_together (waiting_before records (length records) - waiting_before records from)
 
 -- all records, the bags that are known, and the deposits without one; there are no more deposits
 -- than records

@@ -1,9 +1,10 @@
 //! Turns in which nothing came.
 
-ghost use Rattle.std.specs.Prelude.{◌≡◌, ◌<◌, ◌≤◌, ℕ, true, is_some, IfSome};
+ghost use Rattle.std.specs.Prelude.{◌≡◌, ◌<◌, ◌≤◌, ℕ, true, max, is_some, IfSome};
 ghost use Rattle.std.specs.List.{list_any};
 ghost use Rattle.records.specs.SlotStates.{known_of};
 ghost use Rattle.udp_site.specs.Rounds.{waits, next_waiting};
+ghost use Rattle.udp_site.specs.Status.{waiting_from};
 ghost use Rattle.udp_site.specs.Turns.{idles, proposing};
 ghost use Rattle.udp_site.specs.inner.Servers.{Comes, ComesOfTurn, Keeps, Stays};
 ghost use Rattle.udp_site.specs.inner.SlotRecords.{says_known, is_settled, AreSettled, IsFirst};
@@ -58,15 +59,11 @@ impl<C: Cell, P: Port, F: Folders> Server<'_, '_, '_, '_, '_, C, P, F> {
 
     /// How many deposits without a known bag come after the one that was tried last, up to as many
     /// as a port counts.
-    pub(crate) fn untried(&self) -> u32 {
-        let mut from = self.progress.tried.max(self.progress.settled);
-        for count in 0..MOST_TOGETHER {
-            let Some(place) = first_waiting(self.site, from) else {
-                return count;
-            };
-            from = place + 1;
-        }
-        MOST_TOGETHER
+    pub(crate) fn untried(&self) -> u32
+        ensures { result ≡ waiting_from self.now.site.now.book.records
+            (max self.now.progress.tried self.now.progress.settled) }
+    {
+        waiting_from(self.site, self.progress.tried.max(self.progress.settled))
     }
 
     // Proposes the slot's deposit.
@@ -120,6 +117,20 @@ fn first_waiting<C: Cell>(site: &Site<C>, from: usize) -> Option<usize>
         }
     }
     None
+}
+
+// How many deposits without a known bag there are from this place on, up to as many as a port counts.
+fn waiting_from<C: Cell>(site: &Site<C>, from: usize) -> u32
+    ensures { result ≡ waiting_from site.now.book.records from }
+{
+    let mut next = from;
+    for count in 0..MOST_TOGETHER {
+        let Some(place) = first_waiting(site, next) else {
+            return count;
+        };
+        next = place + 1;
+    }
+    MOST_TOGETHER
 }
 
 // Whether a deposit is at this place, and its slot has a known bag.
