@@ -41,6 +41,7 @@ says why nobody was asked:
   key open to others
                     others than its owner have rights to the key file
   key line N        line N of the key file is at fault
+  open 1            a cell is of another federation
   open 4            a file can't be read
   damaged OFFSET    a cell is damaged from this byte on
   ledger line N     line N of a list is none of a ledger's

@@ -1,20 +1,23 @@
 //! The command `status`.
 
 use crate::arguments::StatusTask;
+use crate::files::known_by;
 use crate::sites::{Federation, federation_at};
 use crate::standing_speaker::StandingSpeaker;
 use code_words::{Asked, SpokenOutput};
 use counted_writes::{CountedWriter, write_output};
 use file_words::SpokenLines;
 use json_lines::JsonLines;
-use known_bags::{DiskSources, SourceFault, push_sources, write_fault};
+use known_bags::write_fault;
 use outcomes::ProgramFault;
 use site_commands::{Stop, write_stop};
-use standings::{report_standings, versions_in};
-use std::alloc::AllocError;
+use standings::report_standings;
 use std::io::{self, Write};
 use std::thread;
 use std::time::Duration;
+
+/// The line where a cell is of another federation.
+const FOREIGN: &str = "open 1\n";
 
 /// How a report ended.
 #[derive(Clone, Copy, Debug)]
@@ -51,8 +54,8 @@ fn show_once(rt: &HostRuntime, task: &StatusTask<'_>) -> Result<Ended, ProgramFa
     let speaker = StandingSpeaker::if_asked(rt, task);
     let output = JsonLines::new(rt.alloc(), task.json, io::writer(rt));
     let output = &mut CountedWriter::new(SpokenLines::new(rt.alloc(), speaker, output));
-    let by_files = match known_by_files(rt, task) {
-        Ok(count) => count,
+    let known = match known_by(rt, &task.files) {
+        Ok(known) => known,
         Err(fault) => return Ok(Ended::Refused(write_fault(rt.alloc(), output, fault)?)),
     };
     match federation_at(rt, task.members, task.key, task.wait) {
@@ -62,28 +65,21 @@ fn show_once(rt: &HostRuntime, task: &StatusTask<'_>) -> Result<Ended, ProgramFa
                 sites,
                 port,
             } = &mut federation;
+            if known.federations.iter().any(|it| it != number) {
+                return Ok(Ended::Refused(write_output(output, 1, FOREIGN)?));
+            }
             let status = report_standings(
                 rt.alloc(),
                 rt,
                 port,
                 *number,
-                by_files,
+                known.versions,
                 sites.as_mut_slice(),
                 output,
             )?;
             Ok(Ended::Asked(status))
         }
         Err(stop) => Ok(Ended::Refused(refuse(rt, task, stop)?)),
-    }
-}
-
-// How many versions the files know.
-fn known_by_files(rt: &HostRuntime, task: &StatusTask<'_>) -> Result<u64, SourceFault> {
-    let mut versions = Vec::new(rt.alloc());
-    push_sources(rt.alloc(), &DiskSources { rt }, &mut versions, &task.files)?;
-    match versions_in(rt.alloc(), versions.as_slice()) {
-        Ok(count) => Ok(count as u64),
-        Err(AllocError) => Err(SourceFault::Memory),
     }
 }
 

@@ -7,6 +7,7 @@
 
 mod arguments;
 mod command;
+mod files;
 mod sites;
 mod standing_speaker;
 

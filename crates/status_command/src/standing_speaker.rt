@@ -1,9 +1,10 @@
 //! Why a site isn't well, and why a file can't be used.
 
 use crate::arguments::StatusTask;
+use crate::files::push_file;
 use code_words::meaning_of_line;
 use file_words::{LineSpeaker, push_file_words, say_text};
-use known_bags::{DiskSources, push_source};
+use site_commands::members_at;
 use std::alloc::AllocError;
 
 /// What says the lines of sites.
@@ -60,6 +61,7 @@ impl<'a> StandingSpeaker<'a> {
             }
             ["federation", ..] => {}
             ["memory"] => self.push_code(&mut text, line)?,
+            ["open", "1"] => self.push_foreign(&mut text, line)?,
             _ => self.push_file(&mut text, line)?,
         }
         Ok(text)
@@ -115,11 +117,29 @@ impl<'a> StandingSpeaker<'a> {
         }
         for path in self.files {
             let bags = &mut Vec::new(self.rt.alloc());
-            if push_source(self.rt.alloc(), &DiskSources { rt: self.rt }, bags, path).is_err() {
+            if push_file(self.rt, bags, path).is_err() {
                 return push_file_words(self.rt, text, path, line);
             }
         }
         Ok(())
+    }
+
+    // Appends which cell is of another federation than the members file.
+    fn push_foreign(&self, text: &mut String, line: &str) -> Result<(), AllocError> {
+        let Ok(members) = members_at(self.rt, self.members) else {
+            return self.push_code(text, line);
+        };
+        let number = members.members().federation();
+        for path in self.files {
+            let bags = &mut Vec::new(self.rt.alloc());
+            match push_file(self.rt, bags, path) {
+                Ok(Some(federation)) if federation != number => {
+                    return push_file_words(self.rt, text, path, line);
+                }
+                _ => {}
+            }
+        }
+        self.push_code(text, line)
     }
 
     fn push_code(&self, text: &mut String, line: &str) -> Result<(), AllocError> {
