@@ -424,7 +424,7 @@ class Words:
             listed |= {one[3].decode() for one in found} if all(found) else set()
         for path in self.files if tags else ():
             if not path.startswith(("data/", "tagmanifest-")) and path not in listed:
-                yield f"no tag manifest lists {shown(path)}, so that a change of it isn't seen"
+                yield f"no tag manifest lists {shown(path)}, so a change to it would go unnoticed"
 
 
 def in_order(lines):

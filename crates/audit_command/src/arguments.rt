@@ -11,15 +11,15 @@ use std::alloc::{AllocError, Global};
 
 const ABOUT: &str = "Says which bags the cells of several sites prove to be chosen";
 
-const EXAMPLE: &str = "Cells may be in use: of such a cell each whole record but the last 64 is
-counted, since a crash may take back what its site has appended and not synced;
-and each one that the site, by what it leaves in CELL.synced, says is synced. A
-cell that no site holds is synced before it is read, and a site that starts
-meanwhile waits for that. No cell is changed. Cells may be copies, but a copy of
-a cell in use can't be recognised as one: copy a cell while its site is stopped,
-or audit the cell itself. Two cells of one site count as one. `-` is standard
-input. What comes through a pipe, as that of `<(..)` in a shell, can't be
-synced: it counts as a cell in use.
+const EXAMPLE: &str = "Cells may be in use. Of such a cell all whole records but the last 64 count,
+since a crash may take back what its site has appended and not synced. Of those
+64 the ones count that the file CELL.synced, which the site writes, says are
+synced. A cell that no site holds is synced before it is read, and a site that
+starts meanwhile waits for that. No cell is changed. Cells may be copies, but a
+copy of a cell in use can't be recognised as one: copy a cell while its site is
+stopped, or audit the cell itself. Two cells of one site count as one. `-` is
+standard input. What comes through a pipe, as that of `<(..)` in a shell, can't
+be synced: it counts as a cell in use.
 
 First it prints
   in-use CELL            for each cell that is in use; it changes no status
@@ -39,8 +39,8 @@ For each version, in the order in which the cells name them:
                          show why
   open OBJ V             these cells show no bag
   conflict OBJ V HEX HEX
-                         they show two bags: a site's cell was lost, replaced or
-                         altered
+                         they show two bags: docs/AUDIT.md has what may be the
+                         cause
 and finally how many of each there are: C chosen, K known, O open, X conflicts.
 
 With --json each line is a line of JSON: an object whose member `line` says what

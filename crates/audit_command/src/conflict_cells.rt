@@ -42,7 +42,7 @@ pub(crate) fn push_names(
     let version = conflict.version;
     write!(
         text,
-        " {version}: a site's cell was lost, replaced or altered: see docs/AUDIT.md"
+        " {version}: two bags; docs/AUDIT.md has what may be the cause"
     )?;
     for path in cells {
         let records = records_at(rt, path)?;

@@ -28,7 +28,7 @@ pub(crate) fn push_tag_files(
             counts.warn(text)?;
             text.push_str("no tag manifest lists ")?;
             push_name(text, path)?;
-            text.push_str(", so that a change of it isn't seen\n")?;
+            text.push_str(", so a change to it would go unnoticed\n")?;
         }
     }
     Ok(())

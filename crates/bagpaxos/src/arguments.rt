@@ -21,8 +21,8 @@ const ABOUT: &str = "Several repositories, each with copies of one collection, a
 version of an object, with no master site.";
 
 const EXAMPLE: &str =
-    "`bagpaxos help codes` lists what it prints by a number or a word, and what each
-says.
+    "`bagpaxos help codes` lists the numbers and words that it prints, and what each
+means.
 
 Example:
   bagpaxos run < examples/first.schedule";

@@ -15,8 +15,8 @@ const EXAMPLE: &str = "A schedule is a text of commands, one a line:
   file T PATH HEX       adds a file, its bytes in hex (`-` for none)
   deposit S T OBJ V     deposits the tree at site S, as version V of object OBJ
   propose S OBJ V       site S proposes its deposit to all
-  recover S OBJ V       site S, which has voted or has a deposit, has all decide
-                        what may be chosen
+  recover S OBJ V       site S, which has voted or has a deposit, begins a
+                        ballot for the bag that may be chosen
   deliver K             the K-th datagram that was sent arrives
   pump N                N times: the oldest datagram arrives that no deliver or
                         pump has named
@@ -37,9 +37,9 @@ Lines that are blank, or begin with `#`, are skipped.
 With `--words` standard error says, once the lines are printed, what each
 command did, with its own line below it, and which datagrams were never
 delivered; or, if the text is no schedule, what is wrong with its first line at
-fault. With `--draw` a picture of the run is written to a file, in place of a
-picture that is there, and of nothing else: one column per site, time downwards,
-one arrow per datagram. If the file's name ends in `.html`, it is a page for a
+fault. With `--draw` a picture of the run is written to a file: one column per
+site, time downwards, one arrow per datagram. It replaces a picture that is
+there, but no other file. If the file's name ends in `.html`, it is a page for a
 browser, in which you step through the run: after each event it shows what each
 site has on record, and which datagrams are under way.
 

@@ -30,8 +30,8 @@ kind of line it is, and which has a member for each word after that.
 With --words standard error says in words what lines `other` and `open` say, and
 why nobody was asked.
 
-The exit status is 0 if that is all of them; 1 if it isn't, or a last line says
-why nobody was asked:
+The exit status is 0 if K is N; 1 if it isn't, or a last line says why nobody
+was asked:
   members unread    the members file can't be read
   members line N    line N of the members file is at fault
   not a member      the members file has no such site

@@ -157,8 +157,8 @@ fn push_silence(rt: &HostRuntime, text: &mut String, asked: &Asked<'_>) -> Resul
         )?;
     }
     text.push_str(
-        "; or its members file is of another federation, or its key is another, or one of both has \
-        none: `bagpaxos members` and `bagpaxos members --key` say which they are",
+        "; or its members file is of another federation, or it has another key, or only one of the \
+        two has a key: `bagpaxos members` and `bagpaxos members --key` say which they are",
     )
 }
 

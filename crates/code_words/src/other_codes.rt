@@ -131,7 +131,7 @@ pub static OTHERS: [Meaning; 30] = [
     },
     Meaning {
         code: "in-use CELL",
-        words: "a site has the cell open: its last 64 records count if it says they are synced",
+        words: "a site has the cell open: of its last 64 records those count that it says are synced",
         advice: "",
     },
     Meaning {
@@ -152,6 +152,6 @@ pub static OTHERS: [Meaning; 30] = [
     Meaning {
         code: "conflict OBJ V HEX HEX",
         words: "two bags are known as one version",
-        advice: "a site has lost its cell or was run on a copy: see docs/AUDIT.md",
+        advice: "docs/AUDIT.md has what may be the cause",
     },
 ];

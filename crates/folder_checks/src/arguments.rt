@@ -53,7 +53,7 @@ but not that it is valid.
 
 Of several folders, each of these lines but `memory` has the folder before it:
   path/to/bag invalid 14
-With --named, --from or --from0 that is so of one folder too.
+With --named, --from or --from0 this is so even if there is only one.
 
 --from FILE checks the folders that FILE lists, one a line, and --from0 FILE
 those that zero bytes end, as `find -print0` writes them; `-` is standard input.
@@ -82,8 +82,8 @@ seconds it took, and with --explain the places of what is wrong. FORMATS.md has
 each of these.
 
 With --registered FILE, a site's cell or a list that `ledger` printed (`-` is
-standard input), lines there say which of the known bags the folders are, once
-all are checked:
+standard input), lines on standard error say which of the known bags the folders
+are, once all are checked:
   FOLDER is OBJ V               it is the bag that is known as version V of OBJ
   FOLDER is no registered bag   it is a valid bag, but that of no version
   not among these: OBJ V        no folder is the bag of this version
@@ -238,7 +238,7 @@ fn versions_argument<'a>(alloc: Global) -> Result<Arg<'a>, AllocError> {
     Arg::new(alloc, "versions")
         .long("versions")
         .action(ArgAction::SetTrue)
-        .help("Print that, in place of saying it on standard error")
+        .help("With --registered: print this on standard output")
         .requires_arg("registered")
 }
 
@@ -256,7 +256,7 @@ fn named_argument<'a>(alloc: Global) -> Result<Arg<'a>, AllocError> {
     Arg::new(alloc, "named")
         .long("named")
         .action(ArgAction::SetTrue)
-        .help("Begin each line with its folder, of one folder too")
+        .help("Begin each line with its folder, even if there is one")
         .conflicts_with("registered")
 }
 
@@ -308,7 +308,7 @@ fn quiet_argument<'a>(alloc: Global) -> Result<Arg<'a>, AllocError> {
     Arg::new(alloc, "quiet")
         .long("quiet")
         .action(ArgAction::SetTrue)
-        .help("Don't say how far it is, on a terminal either")
+        .help("Report no progress, not even on a terminal")
         .conflicts_with("progress")
 }
 

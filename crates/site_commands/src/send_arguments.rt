@@ -51,8 +51,8 @@ For each line it prints one, in their order:
 and with --until-known, by which up to 32 deposits are under way at a time:
   known OBJ V HEX              the bag that was deposited is known
   other OBJ V HEX HEX          the first is known, and the second was deposited
-  registered N OBJ V HEX       it is deposited; no more was heard in SECONDS,
-                               which begin anew with each 32
+  registered N OBJ V HEX       it is deposited, and nothing more was heard
+                               within SECONDS, counted anew for every 32
 The last line is `K of N`: K of the N deposits are `registered`, or with
 --until-known `known`. The status is 0 if K is N.
 

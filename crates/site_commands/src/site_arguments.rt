@@ -40,11 +40,12 @@ After each proposal such turns wait twice as long as before, up to --wait-most,
 but 500 ms, or --wait if that is longer, at most while it hears sites that have
 more than half of all weight with it, unless their answers are late. A deposit
 that it registers, an Accept, a vote or a known bag bring the first wait back.
-However much comes, such a turn is taken once ten times --wait, 250 ms and its
-wait have passed since the last one. After a deposit such turns are taken at
-once, until the site may propose it; but not while a proposal of its own is
-under way. So they are if a client asks for a bag that is pending, a second
-after the last proposal, or more if answers are late.
+However much comes, such a turn is taken once the longest of these has passed
+since the last one: ten times --wait, 250 ms, and its present wait. After a
+deposit such turns are taken at once, until the site may propose it, but not
+while a proposal of its own is under way. They are also taken at once if a
+client asks for a pending bag, and a second has passed since the last proposal,
+or more if answers are late.
 
 With --key each datagram has a tag, HMAC-SHA-256, and what has no right one is
 dropped. All sites and clients then need a key file: a text with a line
@@ -75,14 +76,14 @@ keys that it sends with.
 If the log can't be written, or isn't a file, standard error says so once, and
 the site goes on.
 
-Of one address and one first word the log has 60 lines a minute, but each line
-`known`. Those after them are counted, and once the minute is over, or the site
-ends, it says how many there were. So are 64 addresses and words of a minute;
-later ones share one count for each word, under *:
+The log has at most 60 lines a minute of one address and one first word; all
+lines `known` are in it. Those after them are counted, and once the minute is
+over, or the site ends, it says how many there were. At most 64 such pairs are
+counted in a minute; later ones share one count for each word, under *:
   TIME 51234 log: 12345 dropped in this minute (refused)
-With a log no line waits for who reads standard output: what can't be written at
-once isn't, and the log says how many lines there were. With --quiet nothing is
-written there at all.
+With a log the site doesn't wait for the reader of standard output: what can't
+be written at once is left out, and the log says how many lines there were. With
+--quiet nothing is written there at all.
   TIME - output: 12345 dropped in this minute
 
 A site that has proposed its deposit and has heard no majority for ten seconds

@@ -19,11 +19,12 @@ each:
   site S silent     no answer came
 and finally `federation F K of N`: K of its N sites are well. A site is well if
 it answers, knows as many bags as the others and the files, and hears a
-majority, or has no deposit that waits for one. How many bags are compared, and
-not which: so sites that were down one after the other may each lack another
-one. Run catch-up after each stop, whatever this says. Where nothing happens the
-sites are silent: then A grows, though all is well. While deposits are under way
-a site may lack some for a moment; --watch shows whether that lasts.
+majority, or has no deposit that waits for one. It compares how many bags are
+known, not which ones: so sites that were down one after the other may each lack
+another one. Run catch-up after each stop, whatever this says. Where nothing
+happens the sites are silent: then A grows, though all is well. While deposits
+are under way a site may lack some for a moment; --watch shows whether that
+lasts.
 
 Each FILE is a cell, which may be in use and is never changed, or a list that
 `ledger` printed; a version that one of them knows counts as known elsewhere.

@@ -73,8 +73,8 @@ impl<'a> StandingSpeaker<'a> {
             text,
             "site {site}: three questions had no answer in {wait} ms each: start it, with \
             --existing, if it is down; or it is reading a large bag, or hasn't ended its first \
-            turn; or its members file is of another federation, or its key is another, or one of \
-            both has none; or its program is older"
+            turn; or its members file is of another federation, or it has another key, or only one \
+            of the two has a key; or its program is older"
         )
     }
 
@@ -102,9 +102,9 @@ impl<'a> StandingSpeaker<'a> {
             let members = self.members;
             write!(
                 text,
-                "site {site}: elsewhere more bags are known, by {lacks}: if that lasts, `bagpaxos \
-                catch-up --members {members} --to {site}` with a list of `ledger` or a cell of \
-                another site brings it up to date"
+                "site {site}: bags that are known elsewhere, and not to it: {lacks}; if that lasts, \
+                `bagpaxos catch-up --members {members} --to {site}` with a list of `ledger` or a cell \
+                of another site brings it up to date"
             )?;
         }
         Ok(())
