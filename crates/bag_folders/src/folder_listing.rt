@@ -33,16 +33,19 @@ pub(crate) struct FolderListing {
     waiting: Vec<String>,
     /// How many files and folders were found.
     found: usize,
+    /// How many there are at most.
+    most: usize,
 }
 
 impl FolderListing {
-    fn new(alloc: Global) -> FolderListing {
+    fn new(alloc: Global, most: usize) -> FolderListing {
         FolderListing {
             alloc,
             files: Vec::new(alloc),
             payload: false,
             waiting: Vec::new(alloc),
             found: 0,
+            most,
         }
     }
 
@@ -117,7 +120,7 @@ impl FolderListing {
             let error = ErrorKind::InvalidFilename.into();
             return Err(unlisted(self.alloc, below, &error)?);
         };
-        if self.found >= MOST_FILES {
+        if self.found >= self.most {
             return Err(too_many(self.alloc)?);
         }
         self.found += 1;
@@ -153,7 +156,18 @@ pub(crate) fn list_bag<R: Files + AllocGlobal + Clone + Drop>(
 ) -> Result<FolderListing, Failure>
     ensures { IfErr result (λ failure. IsWalkFault failure.fault) }
 {
-    let mut listing = FolderListing::new(alloc);
+    list_at_most(alloc, bag, MOST_FILES)
+}
+
+/// The same, if there are no more files and folders than this, which is `MOST_FILES` at most.
+pub(crate) fn list_at_most<R: Files + AllocGlobal + Clone + Drop>(
+    alloc: Global,
+    bag: &OpenBag<'_, R>,
+    most: usize,
+) -> Result<FolderListing, Failure>
+    ensures { IfErr result (λ failure. IsWalkFault failure.fault) }
+{
+    let mut listing = FolderListing::new(alloc, most);
     listing.list(bag, "")?;
     // Each turn lists one of the folders that were found, at most `MOST_FILES` of them.
     'folders: for _ in 0..MOST_FILES {

@@ -3,7 +3,7 @@ use bag_tree::{Facts, TreeFault};
 
 /// Where folders are read from: a disk, or memory.
 pub trait Folders {
-    ghost use Rattle.std.specs.Prelude.{◌≡◌, ◌≢◌, ℕ, List, Result, Option, Some, None};
+    ghost use Rattle.std.specs.Prelude.{◌≡◌, ◌≢◌, ◌≤◌, ℕ, List, Result, Option, Some, None};
     ghost use Rattle.std.specs.Prelude.{IfErr, IfSome, option_copied};
     ghost use Rattle.bag_tree.specs.declared.fault.TreeFault.{TreeFault};
     ghost use Rattle.bag_tree.specs.declared.fault.TreeFault.TheVariants.{BadPath};
@@ -29,6 +29,14 @@ pub trait Folders {
     fn refused(&mut self, fault: BagFault)
         ensures kept { gives self.new ≡ gives self.old }
         ensures place { fails_at self.new ≡ fails_at self.old };
+
+    /// How many bytes the files of the folder of this path have together, if they are known without
+    /// being read, few, and have no more than this.
+    fn weighs(&self, _path: &str, _most: u64) -> Option<u64>
+        ensures { IfSome result (λ bytes. bytes ≤ _most) }
+    {
+        None
+    }
 
     /// Where the last read failed, if that is known: a path below the folder, or `.` for the folder
     /// itself.

@@ -32,6 +32,7 @@ mod remembering_folders;
 mod walk;
 mod watched_file;
 mod watcher;
+mod weight;
 
 pub use bare_folders::BareFolders;
 pub use disk_folders::DiskFolders;

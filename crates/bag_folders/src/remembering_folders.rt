@@ -12,6 +12,7 @@ use crate::refusals::{Reason, Refusal, Refusals};
 use crate::refused_bag::bag_refused_for;
 use crate::walk::{Reading, list_within, open_bag, read_listed};
 use crate::watcher::Silent;
+use crate::weight::weight_of;
 use bag_check::BagFault;
 use bag_tree::{Facts, TreeFault};
 use std::alloc::{AllocError, Global};
@@ -107,6 +108,10 @@ impl<R: Files + Clock + AllocGlobal + Clone + Drop> Folders for RememberingFolde
 
     fn refused(&mut self, fault: BagFault) {
         self.remember(Reason::Invalid(fault));
+    }
+
+    fn weighs(&self, path: &str, most: u64) -> Option<u64> {
+        weight_of(&self.rt, path, most.min(self.most_bytes))
     }
 
     fn failed_at(&self) -> Option<&str> {

@@ -74,8 +74,8 @@ handed_by (Took taken ∷ moves) = handed_by moves
 handed_by (Failed ∷ moves) = handed_by moves
 handed_by (Handed post ∷ moves) = post ∷ handed_by moves
 
--- Where a sync fails, what is told of that: a reply to the client of the batch's deposit, and a
--- line; or a part of these. Where it is only broken off nothing is told.
+-- Where a sync fails, what is told of that: a reply to the client of each deposit of the batch, and
+-- a line; or a part of these. Where it is only broken off nothing is told.
 abbrev pub IsRefusal : OpenSite Waiting → List Taken → Result (Unit {0}) CommitFault → List Post
     → List ℕ → Type 0
 IsRefusal site took (Ok done) refused said = (refused ≡ []) × (said ≡ [])

@@ -98,6 +98,18 @@ impl<F: Folders> Folders for FoldersBelow<'_, F> {
         }
     }
 
+    // One that leads out isn't read.
+    fn weighs(&self, path: &str, most: u64) -> Option<u64> {
+        match self.top {
+            Some(_) if leads_out(path.as_bytes()) => Some(0),
+            Some(top) => match format!(in self.alloc; "{top}/{path}") {
+                Ok(path) => self.folders.weighs(path.as_str(), most),
+                Err(AllocError) => None,
+            },
+            None => self.folders.weighs(path, most),
+        }
+    }
+
     fn failed_at(&self) -> Option<&str> {
         if self.has_left {
             return Some(".");

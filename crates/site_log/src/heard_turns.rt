@@ -1,8 +1,9 @@
 //! What came in the turns of a batch, and what a line of the site's is about.
 
+use crate::request_text::asks_for;
 use addresses::Address;
 use std::alloc::{AllocError, Global};
-use udp_site::{Turn, is_deposit};
+use udp_site::Turn;
 
 /// What came in a turn: a datagram from an address, or nothing.
 #[derive(Drop)]
@@ -31,6 +32,12 @@ pub(crate) struct HeardTurns {
     marks: Vec<usize>,
     /// How many of these lines were written.
     written: usize,
+    /// Whether the last of those that are taken in is for the batch after it.
+    carries: bool,
+    /// How many turns of the batch that is taken in come before the next folder that is read.
+    passed: usize,
+    /// The place of the turn whose folder is read, if that is known.
+    reading: Option<usize>,
 }
 
 impl HeardTurns {
@@ -41,12 +48,16 @@ impl HeardTurns {
             heard: Vec::new(alloc),
             marks: Vec::new(alloc),
             written: 0,
+            carries: false,
+            passed: 0,
+            reading: None,
         }
     }
 
     /// A batch begins with this turn, for which was waited.
     pub(crate) fn begins(&mut self, turn: &Turn) {
         self.heard.truncate(self.marks.len());
+        self.starts();
         self.joins(turn);
     }
 
@@ -69,9 +80,38 @@ impl HeardTurns {
         }
         self.written = 0;
         self.marks.clear();
+        self.starts();
         let room = self.heard.len() >= after.len();
         if !room || self.marks.extend_from_slice(after).is_err() {
             self.forget();
+        }
+    }
+
+    /// The last that came is for the batch after the one that is taken in.
+    pub(crate) fn carries_last(&mut self) {
+        self.carries = true;
+    }
+
+    /// The folder of this path is read next, for a deposit of the batch that is taken in.
+    pub(crate) fn reads(&mut self, federation: u64, path: &str) {
+        let first = self.marks.len().saturating_add(self.passed);
+        let alloc = self.alloc;
+        let mut later = self.heard.iter().skip(first);
+        let place = later.position(|it| asks_for(alloc, federation, it.bytes.as_slice(), path));
+        self.reading = match place {
+            Some(place) => Some(first.saturating_add(place)),
+            None => None,
+        };
+        if let Some(place) = place {
+            self.passed = self.passed.saturating_add(place).saturating_add(1);
+        }
+    }
+
+    /// What asked for the deposit whose folder is read; if that isn't known, what came first.
+    pub(crate) fn deposit(&self) -> Option<&Heard> {
+        match self.reading {
+            Some(place) => self.heard.get(place),
+            None => self.taken_in(),
         }
     }
 
@@ -96,27 +136,35 @@ impl HeardTurns {
         }
     }
 
-    /// What came in the first turn of the batch that is taken in.
-    pub(crate) fn taken_in(&self) -> Option<&Heard> {
+    // What came in the first turn of the batch that is taken in.
+    fn taken_in(&self) -> Option<&Heard> {
         self.heard.get(self.marks.len())
     }
 
-    // How many datagrams this batch has after its first turn. A deposit that came after others is
-    // for the next batch.
+    // How many datagrams this batch has after its first turn.
     fn others(&self) -> usize {
         let first = self.marks.len().saturating_add(1);
         let others = self.heard.iter().skip(first);
         let datagrams = others.filter(|it| it.from.is_some()).count();
-        match self.heard.last() {
-            Some(last) if datagrams > 0 && is_deposit(&last.bytes) => datagrams.saturating_sub(1),
-            _ => datagrams,
+        if self.carries {
+            datagrams.saturating_sub(1)
+        } else {
+            datagrams
         }
+    }
+
+    // Of the batch that is taken in no folder was read, and nothing is left for the next.
+    fn starts(&mut self) {
+        self.carries = false;
+        self.passed = 0;
+        self.reading = None;
     }
 
     fn forget(&mut self) {
         self.heard.clear();
         self.marks.clear();
         self.written = 0;
+        self.starts();
     }
 }
 

@@ -26,6 +26,7 @@ impl<F: Folders> Folders for LoggedFolders<'_, F> {
     ghost fails_at = { λ f. F.fails_at f.folders };
 
     fn read(&mut self, path: &str) -> Result<Facts, TreeFault> {
+        self.log.reads(path);
         match self.folders.read(path) {
             Ok(facts) => Ok(facts),
             Err(fault) => {
@@ -37,6 +38,14 @@ impl<F: Folders> Folders for LoggedFolders<'_, F> {
 
     fn refused(&mut self, fault: BagFault) {
         self.folders.refused(fault);
+    }
+
+    fn weighs(&self, path: &str, most: u64) -> Option<u64> {
+        let weight = self.folders.weighs(path, most);
+        if weight.is_none() {
+            self.log.carries_last();
+        }
+        weight
     }
 
     fn failed_at(&self) -> Option<&str> {

@@ -20,6 +20,17 @@ pub(crate) fn request_text(
     Ok(text)
 }
 
+/// Whether these bytes ask to deposit the folder of this path.
+pub(crate) fn asks_for(alloc: Global, federation: u64, bytes: &[u8], path: &str) -> bool {
+    match decode(alloc, federation, bytes) {
+        Ok(Message {
+            body: Body::Deposit { path: asked },
+            ..
+        }) => asked.as_str() == path,
+        _ => false,
+    }
+}
+
 fn push_message(alloc: Global, text: &mut String, message: &Message) -> Result<(), AllocError> {
     text.push_str(kind(&message.body))?;
     push_slot(text, &message.slot)?;

@@ -153,10 +153,26 @@ impl<'a> SiteLog<'a> {
         }
     }
 
-    /// The folder that a client named can't be read, for this reason, at this place below it.
+    /// What came last is taken in for a later batch.
+    pub(crate) fn carries_last(&self) {
+        if let Ok(mut state) = self.state.try_borrow_mut() {
+            state.heard.carries_last();
+        }
+    }
+
+    /// The folder of this path is read next.
+    pub(crate) fn reads(&self, path: &str) {
+        if let Ok(mut state) = self.state.try_borrow_mut() {
+            if let Some(place) = state.place {
+                state.heard.reads(place.members.federation(), path);
+            }
+        }
+    }
+
+    /// The folder that is read can't be, for this reason, at this place below it.
     pub(crate) fn unread(&self, fault: TreeFault, place: Option<&str>) {
         if let Ok(mut state) = self.state.try_borrow_mut() {
-            let from = from_of(state.heard.taken_in());
+            let from = from_of(state.heard.deposit());
             if self.admits(&mut state, from, Kind::Unread) {
                 let line = self.unread_line(&state, fault, place);
                 append(self.rt, &mut state, line);
@@ -366,7 +382,7 @@ impl<'a> SiteLog<'a> {
         fault: TreeFault,
         place: Option<&str>,
     ) -> Result<String, AllocError> {
-        let heard = state.heard.taken_in();
+        let heard = state.heard.deposit();
         let mut line = self.heading(from_of(heard))?;
         let site = self.number.number();
         let code = 20 + u32::from(fault.number());

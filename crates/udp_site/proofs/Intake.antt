@@ -1,14 +1,13 @@
 -- What a batch takes in, one after another.
-use Rattle.std.proofs.Common.{◌≡◌, ◌≤◌, ◌+◌, true, List, [], ◌∷◌, ◌++◌, length}
+use Rattle.std.proofs.Common.{◌≡◌, ◌≤◌, ◌+◌, List, [], ◌∷◌, ◌++◌, length}
 use Rattle.std.specs.Prelude.{IfOk}
 use Rattle.std.proofs.Common.{map, Option, Some, None, Result, Ok, Err, sym, ap, subst, ◌∙◌, arith}
-use Rattle.std.proofs.Common.{append_assoc, append-nil, inl, inr}
+use Rattle.std.proofs.Common.{append_assoc, append-nil}
 use Rattle.std.specs.Option.{option_to_list}
 use Rattle.std.proofs.lemmas.List.{length-map, map-append}
-use Rattle.fed_types.specs.Laws.Lists.{has_none, has_one, has_cases}
 use Rattle.udp_site.specs.declared.turn.Turn.{Turn}
 use Rattle.udp_site.specs.Traffic.{Taken, Move, Took, Grows, taken}
-use Rattle.udp_site.specs.BatchTurns.{AreTogether, joins, MOST_TURNS}
+use Rattle.udp_site.specs.BatchTurns.{AreTogether, MOST_TURNS}
 use Rattle.udp_site.specs.inner.Batched.{TakesFirst, TakesIn, JoinsMore, carried_of}
 use Rattle.udp_site.specs.declared.fault.ServeFault.{ServeFault}
 use Rattle.udp_site.specs.inner.Receipts.{Receives}
@@ -17,22 +16,18 @@ use Rattle.udp_site.proofs.Growth.{Grows-trans, Grows-none}
 -- nothing has joined yet
 pub none_joined : (a : Option (List Move)) (batch : List Turn) → JoinsMore a a batch batch None
 none_joined a batch =
-    ([], sym (append-nil (map taken batch)), λ taken has. absurd (has_none has), Grows-none a)
+    ([], sym (append-nil (map taken batch)), Grows-none a)
 
 -- this joins too
 pub one_joined : (a b c : Option (List Move)) (old so_far now : List Turn) (turn : Turn)
     → JoinsMore a b old so_far None → Grows b c (Took (taken turn) ∷ [])
-    → joins (taken turn) ≡ true → now ≡ so_far ++ turn ∷ [] → JoinsMore a c old now None
-one_joined a b c old so_far now turn (more, are, join, grows) took joins_too is = (
+    → now ≡ so_far ++ turn ∷ [] → JoinsMore a c old now None
+one_joined a b c old so_far now turn (more, are, grows) took is = (
   more ++ taken turn ∷ [],
   ap (map taken) is
       ∙ (map-append taken so_far (turn ∷ [])
       ∙ (ap (λ (l : List Taken). l ++ taken turn ∷ []) are
       ∙ append_assoc (map taken old) more (taken turn ∷ []))),
-  λ x has. elim (has_cases more (taken turn ∷ []) has) [
-    | inl h ↦ join x h
-    | inr h ↦ subst (λ (t : Taken). joins t ≡ true) (has_one h) joins_too
-  ],
   subst (Grows a c) (sym (all_took more (taken turn)))
       (Grows-trans a b c (map Took (more ++ [])) (Took (taken turn) ∷ []) grows took),
 )
@@ -48,10 +43,9 @@ one_joined a b c old so_far now turn (more, are, join, grows) took joins_too is 
 pub then_carried : (a b c : Option (List Move)) (old now : List Turn) (turn : Turn)
     → JoinsMore a b old now None → Grows b c (Took (taken turn) ∷ [])
     → JoinsMore a c old now (Some turn)
-then_carried a b c old now turn (more, are, join, grows) took = (
+then_carried a b c old now turn (more, are, grows) took = (
   more,
   are,
-  join,
   subst (Grows a c) (sym (all_took more (taken turn)))
       (Grows-trans a b c (map Took (more ++ [])) (Took (taken turn) ∷ []) grows took),
 )
@@ -65,10 +59,9 @@ then_carried a b c old now turn (more, are, join, grows) took = (
 -- no more came
 pub no_more : (a b c : Option (List Move)) (old now : List Turn) → JoinsMore a b old now None
     → Grows b c [] → JoinsMore a c old now None
-no_more a b c old now (more, are, join, grows) took = (
+no_more a b c old now (more, are, grows) took = (
   more,
   are,
-  join,
   subst (Grows a c) (append-nil (map Took (more ++ [])))
       (Grows-trans a b c (map Took (more ++ [])) [] grows took),
 )
@@ -79,8 +72,7 @@ pub all_taken_in : (a b c : Option (List Move)) (old carried : Option Turn) (tur
     → JoinsMore b c first batch carried
     → length batch + length (option_to_list (carried_of carried)) ≤ MOST_TURNS
     → TakesIn a c old carried batch
-all_taken_in a b c old carried turn first batch is (came, begins, grows) (more, are, join, took)
-    most =
+all_taken_in a b c old carried turn first batch is (came, begins, grows) (more, are, took) most =
     let rest = option_to_list (carried_of carried) in
     let batch_is : map taken batch ≡ taken turn ∷ more =
     are ∙ ap (λ ts. map taken ts ++ more) is in (
@@ -88,10 +80,8 @@ all_taken_in a b c old carried turn first batch is (came, begins, grows) (more, 
       sym (append_assoc (option_to_list (carried_of old)) came (more ++ rest))
           ∙ (ap (λ (l : List Taken). l ++ (more ++ rest)) begins
           ∙ ap (λ (l : List Taken). l ++ rest) (sym batch_is)),
-      subst AreTogether (sym batch_is) (
-        omega (arith, most, ap length batch_is, length-map batch taken),
-        join,
-      ),
+      subst AreTogether (sym batch_is)
+          (omega (arith, most, ap length batch_is, length-map batch taken)),
       subst (Grows a c) (sym (map-append Took came (more ++ rest)))
           (Grows-trans a b c (map Took came) (map Took (more ++ rest)) grows took),
     )

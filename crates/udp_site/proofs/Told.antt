@@ -1,6 +1,6 @@
 -- What is told of a batch whose sync failed.
-use Rattle.std.proofs.Common.{◌≡◌, ℕ, List, [], ◌∷◌, length, map, take, slice_get}
-use Rattle.std.proofs.Common.{Option, None, Result, Ok, Err, sym, ap, ◌∙◌, subst}
+use Rattle.std.proofs.Common.{◌≡◌, ℕ, List, [], ◌∷◌, ◌++◌, length, map, take}
+use Rattle.std.proofs.Common.{Option, Result, Ok, Err, refl, sym, ap, ◌∙◌, subst}
 use Rattle.std.proofs.Common.{append-nil}
 use Rattle.std.specs.Prelude.{IsErrAnd, OnOk, OnErr}
 use Rattle.std.specs.List.{flat_map}
@@ -21,7 +21,7 @@ use Rattle.udp_site.specs.declared.requests.Asked.{Asked}
 use Rattle.udp_site.specs.Requests.{Request}
 use Rattle.udp_site.specs.BatchTurns.{refusals, refused_deposit, refusal_text}
 use Rattle.udp_site.specs.inner.Asked.{IsAsked}
-use Rattle.udp_site.specs.inner.Batched.{GrowsPart, AppendsPart}
+use Rattle.udp_site.specs.inner.Batched.{GrowsPart, AppendsPart, refused_turn}
 use Rattle.udp_site.specs.inner.Outcomes.{Hands, Notes}
 use Rattle.udp_site.proofs.Growth.{Appends-none}
 use Rattle.udp_site.proofs.Handed.{is_err, grows_by_no_posts}
@@ -56,12 +56,13 @@ part_handed a b posts (Err faults.Cell) hands = absurd hands
 part_handed a b posts (Err faults.Memory) hands = hands
 part_handed a b posts (Err faults.Output) hands = absurd hands
 
--- a batch without a turn has no deposit
-pub none_refused : (a : Option (List Move)) (site : OpenSite Waiting) (fault : SiteFault)
-    (batch : List Turn) → slice_get batch 0 ≡ None
-    → Grows a a (all_handed (refusals site fault (map taken batch)))
-none_refused a site fault [] none = grows_by_no_posts a
-none_refused a site fault (turn ∷ turns) none = absurd (cc none)
+-- each turn of a batch, by what it took
+pub refused_turns : (site : OpenSite Waiting) (fault : SiteFault) (batch : List Turn)
+    → flat_map (refused_turn site fault) batch ≡ refusals site fault (map taken batch)
+refused_turns site fault [] = refl
+refused_turns site fault (turn ∷ turns) =
+    ap (λ (posts : List Post). refused_turn site fault turn ++ posts)
+    (refused_turns site fault turns)
 
 -- the line was written, or a part of it
 pub line_written : (a b : Option (List ℕ)) (site : OpenSite Waiting) (fault : SiteFault)

@@ -2,13 +2,12 @@
 -- the rules of a single turn, and sees the records of those before it. Then their records are
 -- synced together; and only then is handed out what these turns hand out, and written what they
 -- say.
-use Rattle.std.specs.Prelude.{◌≡◌, ◌⊎◌, ◌<◌, ◌≤◌, ◌+◌, ℕ, Bool, true, false, not}
+use Rattle.std.specs.Prelude.{◌≡◌, ◌⊎◌, ◌<◌, ◌≤◌, ◌+◌, ℕ, true, false}
 use Rattle.std.specs.Prelude.{List, [], ◌∷◌, ◌++◌, length, map, take}
 use Rattle.std.specs.Prelude.{Option, None, Result, Ok, Err}
 use Rattle.std.specs.List.{flat_map}
 use Rattle.std.specs.Io.KnownBytes.{Appends}
 use Rattle.std.specs.Option.{option_to_list}
-use Rattle.fed_types.specs.Lists.{Has}
 use Rattle.cell_device.specs.Devices.{Device}
 use Rattle.book.specs.declared.fault.CommitFault.{CommitFault}
 use Rattle.book.specs.declared.fault.CommitFault.TheVariants as commits
@@ -22,9 +21,8 @@ use Rattle.site.specs.Sites.{OpenSite}
 use Rattle.lines.specs.declared.notice.Notice.TheVariants.{Refused}
 use Rattle.udp_site.specs.declared.fault.ServeFault.{ServeFault}
 use Rattle.udp_site.specs.declared.fault.ServeFault.TheVariants as faults
-use Rattle.udp_site.specs.Traffic.{Post, Taken, Nothing, From, Move, Took, Failed, Grows}
+use Rattle.udp_site.specs.Traffic.{Post, Taken, Move, Took, Failed, Grows}
 use Rattle.udp_site.specs.Traffic.{all_handed}
-use Rattle.udp_site.specs.Signs.{is_deposit}
 use Rattle.udp_site.specs.Requests.{Request, Deposits, request_of}
 use Rattle.udp_site.specs.Replies.{deposit_answer}
 use Rattle.udp_site.specs.Turns.{Serving, begins, deposit_replies}
@@ -36,17 +34,10 @@ use Rattle.udp_site.specs.Served.{Rule, Outside, Turned, notice_text, text_of}
 abbrev pub MOST_TURNS : ℕ
 MOST_TURNS = 64
 
--- what may come after others in a batch: an idle turn, or a datagram, but none that has the kind of
--- a deposit, whose folder is read first. So nothing waits for a sync while a folder is read.
-abbrev pub joins : Taken → Bool
-joins Nothing = true
-joins (From from bytes) = not (is_deposit bytes)
-
 -- what may be taken in together: one turn at least
 abbrev pub AreTogether : List Taken → Type 0
 AreTogether [] = ⊥
-AreTogether (first ∷ more) =
-    (length more < MOST_TURNS) × ((taken : Taken) → Has taken more → joins taken ≡ true)
+AreTogether (first ∷ more) = length more < MOST_TURNS
 
 -- ---- a batch
 
@@ -154,11 +145,11 @@ refused_deposit site fault (Deposits client slot path) =
     (deposit_answer (Err fault))
 refused_deposit site fault request = []
 
--- if the first turn of a batch that took these is one
+-- for each deposit of a batch that took these
 abbrev pub refusals : OpenSite Waiting → SiteFault → List Taken → List Post
-refusals site fault [] = []
-refusals site fault (first ∷ more) =
-    refused_deposit site fault (request_of site.book.owner.members.federation first)
+refusals site fault took =
+    flat_map (λ taken. refused_deposit site fault
+    (request_of site.book.owner.members.federation taken)) took
 
 -- ---- what is outside
 

@@ -1,29 +1,35 @@
 //! What a batch takes in.
 
-ghost use Rattle.std.specs.Prelude.{◌≡◌, ◌≤◌, ◌+◌, not, length, None, vec_capacity};
+ghost use Rattle.std.specs.Prelude.{◌≡◌, ◌≤◌, ◌+◌, length, None, vec_capacity};
 ghost use Rattle.std.specs.Prelude.{OnOk, IfOk, IfErr};
 ghost use Rattle.std.specs.Option.{option_to_list};
-ghost use Rattle.udp_site.specs.BatchTurns.{joins};
 ghost use Rattle.udp_site.specs.Failures.{OnlyByFailing};
-ghost use Rattle.udp_site.specs.Traffic.{taken};
 ghost use Rattle.udp_site.specs.inner.Batched.{TakesIn, TakesFirst, TakesNone, JoinsMore};
 ghost use Rattle.udp_site.specs.inner.Batched.{carried_of};
 
 use crate::fault::ServeFault;
 use crate::port::Port;
+use crate::requests::{Asked, asked_by};
 use crate::serve_loop::receive;
 use crate::sign::is_deposit;
 use crate::turn::Turn;
-use std::alloc::Global;
+use bag_folders::Folders;
+use std::alloc::{AllocError, Global};
 
 /// The most turns of a batch.
 const MOST_TURNS: u32 = 64;
 
+/// How many bytes of bags are read at most while the records of a batch wait for their sync.
+const MOST_READ: u64 = 1 << 20;
+
 /// Takes in the turns of a batch, at least one and no more than are left. What was carried is the
-/// first; a deposit that comes after others is carried to the next batch.
-pub(crate) fn take_in<P: Port>(
+/// first. A deposit joins others if its bag is small; else it is carried to the next batch, so that
+/// nothing waits for a sync while much is read.
+pub(crate) fn take_in<P: Port, F: Folders>(
     alloc: Global,
+    federation: u64,
     port: &mut P,
+    folders: &F,
     carried: &mut Option<Turn>,
     left: u32,
 ) -> Result<Vec<Turn>, ServeFault>
@@ -42,7 +48,7 @@ pub(crate) fn take_in<P: Port>(
     let mut batch = Vec::with_capacity(alloc, most as usize)?;
     let first = take_first(port, carried)?;
     batch.push_reserved(first);
-    *carried = take_more(port, &mut batch, most);
+    *carried = take_more(alloc, federation, port, folders, &mut batch, most);
     Ok(batch)
 }
 
@@ -64,7 +70,14 @@ fn take_first<P: Port>(port: &mut P, carried: &mut Option<Turn>) -> Result<Turn,
 
 // Takes in what is there after the first turn of a batch, up to so many turns in all. The answer is
 // a deposit that came, which begins the next batch.
-fn take_more<P: Port>(port: &mut P, batch: &mut Vec<Turn>, most: u32) -> Option<Turn>
+fn take_more<P: Port, F: Folders>(
+    alloc: Global,
+    federation: u64,
+    port: &mut P,
+    folders: &F,
+    batch: &mut Vec<Turn>,
+    most: u32,
+) -> Option<Turn>
     requires first { length batch.old.items ≡ 1 }
     requires room { most ≤ vec_capacity batch.old }
     requires some { 1 ≤ most }
@@ -73,22 +86,36 @@ fn take_more<P: Port>(port: &mut P, batch: &mut Vec<Turn>, most: u32) -> Option<
     ensures count { length batch.new.items + length (option_to_list (carried_of result)) ≤ most }
     ensures later { P.failures port.old ≤ P.failures port.new }
 {
+    let mut left = MOST_READ;
     'datagrams: for _ in 1..most {
         let turn = port.try_receive()?;
-        if is_for_a_deposit(&turn) {
-            return Some(turn);
+        match bytes_to_read(alloc, federation, folders, &turn, left) {
+            Some(bytes) => left = left.saturating_sub(bytes),
+            None => return Some(turn),
         }
         batch.push_reserved(turn);
     }
     None
 }
 
-// Whether a turn asks for a deposit, by the kind of what came.
-fn is_for_a_deposit(turn: &Turn) -> bool
-    ensures { joins (taken turn.now) ≡ not result }
-{
-    match turn {
-        Turn::Idle => false,
-        Turn::Got(_, bytes) => is_deposit(bytes),
+// How many bytes are read for a turn, if they are few: none, but those of the bag that a deposit
+// names.
+fn bytes_to_read<F: Folders>(
+    alloc: Global,
+    federation: u64,
+    folders: &F,
+    turn: &Turn,
+    most: u64,
+) -> Option<u64> {
+    let Turn::Got(_, bytes) = turn else {
+        return Some(0);
+    };
+    if !is_deposit(bytes) {
+        return Some(0);
+    }
+    match asked_by(alloc, federation, bytes) {
+        Ok(Asked::Deposit(_, path)) => folders.weighs(path.as_str(), most),
+        Ok(_) => Some(0),
+        Err(AllocError) => None,
     }
 }

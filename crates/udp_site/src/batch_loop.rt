@@ -2,6 +2,7 @@
 
 ghost use Rattle.std.specs.Prelude.{◌≡◌, ◌≤◌, ◌+◌, false, List, [], map, length};
 ghost use Rattle.std.specs.Prelude.{OnOk, IfOk};
+ghost use Rattle.std.specs.List.{flat_map};
 ghost use Rattle.std.specs.Option.{option_to_list};
 ghost use Rattle.book.specs.Batches.{HoldsFirst};
 ghost use Rattle.proposer.specs.VolatileStates.{VolatileState};
@@ -14,7 +15,7 @@ ghost use Rattle.udp_site.specs.Requests.{request_of};
 ghost use Rattle.udp_site.specs.Traffic.{From, all_handed, taken};
 ghost use Rattle.udp_site.specs.Turns.{Serving, IsServing, begins, turn_of};
 ghost use Rattle.udp_site.specs.inner.Batched.{TakesTurns, ServesBatch, GrowsPart, AppendsPart};
-ghost use Rattle.udp_site.specs.inner.Batched.{carried_of};
+ghost use Rattle.udp_site.specs.inner.Batched.{carried_of, refused_turn};
 ghost use Rattle.udp_site.specs.inner.HeldPosts.{posts_held};
 ghost use Rattle.udp_site.specs.inner.OneBatch.{OneBatch, batching};
 ghost use Rattle.udp_site.specs.inner.Outcomes.{Hands};
@@ -145,7 +146,8 @@ impl<F: Folders> Server<'_, '_, '_, '_, '_, Waiting, HeldPort, F> {
         ensures port { OnlyByFailing ServeFault.Port (P.failures port.old) (P.failures port.new)
             result }
     {
-        let batch = take_in(self.alloc, port, carried, left)?;
+        let federation = self.site.members().federation();
+        let batch = take_in(self.alloc, federation, port, self.folders, carried, left)?;
         self.serve_batch(held, port, &batch, output)?;
         Ok(batch.len() as u32)
     }
@@ -224,7 +226,7 @@ impl<F: Folders> Server<'_, '_, '_, '_, '_, Waiting, HeldPort, F> {
         Ok(())
     }
 
-    // The sync failed: nothing of the batch is told. But the client of its deposit is told that,
+    // The sync failed: nothing of the batch is told. But the clients of its deposits are told that,
     // and a line says so, as far as there is memory. The answer is that the cell failed, whether or
     // not that could be told.
     fn tell_unsynced<P: Port, W: Write>(
@@ -244,26 +246,26 @@ impl<F: Folders> Server<'_, '_, '_, '_, '_, Waiting, HeldPort, F> {
             (refusal_text self.old.site.now fault) }
         ensures later { P.failures port.old ≤ P.failures port.new }
     {
-        let _ = self.refuse_deposit_of(fault, port, batch);
+        let _ = self.refuse_deposits(fault, port, batch);
         let _ = write_refusal(self.alloc, self.lines, self.site, fault, output);
         ServeFault::Cell
     }
 
-    // If the first turn of the batch is a deposit, its client is told of the fault.
-    fn refuse_deposit_of<P: Port>(
+    // The clients of the batch's deposits are told of the fault.
+    fn refuse_deposits<P: Port>(
         &self,
         fault: SiteFault,
         port: &mut P,
         batch: &[Turn],
     ) -> Result<(), ServeFault>
         ensures handed { Hands (P.traffic port.old) (P.traffic port.new)
-            (refusals self.now.site.now fault (map taken batch.now)) result }
+            (flat_map (refused_turn self.now.site.now fault) batch.now) result }
         ensures later { P.failures port.old ≤ P.failures port.new }
     {
-        match batch.first() {
-            Some(first) => self.refuse_deposit_by(fault, port, first),
-            None => Ok(()),
+        for turn in batch {
+            self.refuse_deposit_by(fault, port, turn)?;
         }
+        Ok(())
     }
 
     // If the turn is a deposit, its client is told of the fault.
@@ -274,8 +276,7 @@ impl<F: Folders> Server<'_, '_, '_, '_, '_, Waiting, HeldPort, F> {
         turn: &Turn,
     ) -> Result<(), ServeFault>
         ensures handed { Hands (P.traffic port.old) (P.traffic port.new)
-            (refused_deposit self.now.site.now fault
-            (request_of self.now.site.now.book.owner.members.federation (taken turn.now))) result }
+            (refused_turn self.now.site.now fault turn.now) result }
         ensures later { P.failures port.old ≤ P.failures port.new }
     {
         match turn {

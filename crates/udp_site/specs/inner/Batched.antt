@@ -4,13 +4,13 @@ use Rattle.std.specs.Prelude.{Option, Some, None, Result, Ok, Err}
 use Rattle.std.specs.List.{flat_map}
 use Rattle.std.specs.Io.KnownBytes.{Appends}
 use Rattle.std.specs.Option.{option_to_list}
-use Rattle.fed_types.specs.Lists.{Has}
 use Rattle.lines.specs.declared.line.Line.{Line}
 use Rattle.cell_device.specs.Devices.{Device}
 use Rattle.book.specs.declared.fault.CommitFault.{CommitFault}
 use Rattle.book.specs.declared.fault.CommitFault.TheVariants as commits
 use Rattle.book.specs.Batches.{BatchCell}
 use Rattle.book.specs.declared.waiting.Waiting.{Waiting}
+use Rattle.site.specs.declared.fault.SiteFault.{SiteFault}
 use Rattle.site.specs.Sites.{OpenSite}
 use Rattle.udp_site.specs.declared.fault.ServeFault.{ServeFault}
 use Rattle.udp_site.specs.declared.fault.ServeFault.TheVariants as faults
@@ -19,8 +19,10 @@ use Rattle.udp_site.specs.Traffic.{Post, Taken, Move, Took, Failed, Grows, taken
 use Rattle.udp_site.specs.Traffic.{all_handed}
 use Rattle.udp_site.specs.Turns.{Serving, IsServing}
 use Rattle.udp_site.specs.Served.{Rule, Outside, Turned}
-use Rattle.udp_site.specs.BatchTurns.{AreTogether, Follow, IsSynced, joins, took_by, posts_of}
+use Rattle.udp_site.specs.BatchTurns.{AreTogether, Follow, IsSynced, took_by, posts_of}
 use Rattle.udp_site.specs.BatchTurns.{text_of_all, refusal_of, refusals, refusal_text}
+use Rattle.udp_site.specs.BatchTurns.{refused_deposit}
+use Rattle.udp_site.specs.Requests.{request_of}
 use Rattle.udp_site.specs.inner.OneTurn.{Adds}
 use Rattle.udp_site.specs.inner.Outcomes.{Notes}
 
@@ -30,6 +32,11 @@ GrowsPart before after moves = (count : ℕ) × Grows before after (take count m
 
 abbrev pub AppendsPart : (before after : Option (List ℕ)) → List ℕ → Type 0
 AppendsPart before after bytes = (count : ℕ) × Appends before after (take count bytes)
+
+-- what is told to the client, if what came in this turn is a deposit
+abbrev pub refused_turn : OpenSite Waiting → SiteFault → Turn → List Post
+refused_turn site fault turn =
+    refused_deposit site fault (request_of site.book.owner.members.federation (taken turn))
 
 -- what was taken in for the next batch
 abbrev pub carried_of : Option Turn → Option Taken
@@ -56,7 +63,6 @@ abbrev pub JoinsMore : (before after : Option (List Move)) → (old new : List T
     → Type 0
 JoinsMore before after old new carried =
     (more : List Taken) × (map taken new ≡ map taken old ++ more)
-    × ((taken : Taken) → Has taken more → joins taken ≡ true)
     × Grows before after (map Took (more ++ option_to_list (carried_of carried)))
 
 -- the receive failed; or memory ran out before it

@@ -1,4 +1,4 @@
-use Rattle.std.proofs.Common.{arith, ap, not, length, le_trans, ◌∙◌, ◌∷◌, [], length-append}
+use Rattle.std.proofs.Common.{arith, ap, length, le_trans, ◌∷◌, [], length-append}
 use Rattle.udp_site.proofs.Intake.{one_joined}
 use Rattle.udp_site.proofs.batch_intake.take_more.Goals as goal
 
@@ -11,9 +11,7 @@ datagrams-preserved g c =
           one_joined (g.P.Port.traffic c.args.port.now) (g.P.Port.traffic c.datagrams.port)
           (g.P.Port.traffic c.try_receive.new.self) c.args.batch.now.items
           c.datagrams.batch.items c.push_reserved.new.self.items turn
-          c.datagrams.invariant.joined came
-          (c.is_for_a_deposit.ensures ∙ ap not c.if-is_for_a_deposit.false)
-          c.push_reserved.ensures.items;
+          c.datagrams.invariant.joined came c.push_reserved.ensures.items;
       count =
           omega (
             arith,
