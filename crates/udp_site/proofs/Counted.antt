@@ -1,11 +1,10 @@
 -- What a site counts, place by place.
-use Rattle.std.proofs.Common.{◌≡◌, ◌≤◌, ◌<◌, ℕ, zero, suc, ◌+◌, ◌-◌, Bool, true, false, List}
-use Rattle.std.proofs.Common.{length, Some, sym, ap, ◌∙◌, arith}
+use Rattle.std.proofs.Common.{◌≡◌, ◌≤◌, ℕ, suc, ◌+◌, Bool, true, false, List, length}
+use Rattle.std.proofs.Common.{sym, ap, ◌∙◌, arith}
 use Rattle.std.specs.Prelude.{if◌then◌else◌}
 use Rattle.records.specs.declared.record.Record.{Record}
 use Rattle.udp_site.specs.Rounds.{waits}
 use Rattle.udp_site.specs.Status.{waiting_before}
-use Rattle.udp_site.specs.inner.SlotRecords.{IsFirst}
 
 one_above : (n : ℕ) → n + 1 ≡ suc n
 one_above n = omega (arith)
@@ -14,7 +13,7 @@ no_more : (n : ℕ) → n ≡ n + 0
 no_more n = omega (arith)
 
 module _ (records : List Record) (place : ℕ) where
-  step : waiting_before records (place + 1)
+  pub step : waiting_before records (place + 1)
       ≡ waiting_before records place + (if waits records place then 1 else 0)
   unfolding waiting_before
   step = ap (waiting_before records) (one_above place)
@@ -43,32 +42,3 @@ all_places records items place count same so_far within past =
   where
     equal : (m n : ℕ) → m ≤ n → n ≤ m → m ≡ n
     equal m n le ge = omega (arith, le, ge)
-
--- ---- how many come from a place on
-
-module _ (records : List Record) where
-  -- so many, where none waits in between
-  pub none_between : (from count : ℕ)
-      → ((place : ℕ) → from ≤ place → place < from + count → waits records place ≡ false)
-      → waiting_before records from ≡ waiting_before records (from + count)
-  none_between from zero isnt = ap (waiting_before records) (no_more from)
-  none_between from (suc count) isnt =
-      none_more records (from + count) (waiting_before records from)
-      (none_between from count (λ place least before. isnt place least (omega (arith, before))))
-      (sym (isnt (from + count) (omega arith) (omega arith)))
-      ∙ ap (waiting_before records) (after from count)
-    where
-      after : (m n : ℕ) → m + n + 1 ≡ m + suc n
-      after m n = omega (arith)
-
-  -- one more, where the first that waits is there
-  pub first_more : (from first : ℕ) → IsFirst (waits records) from (Some first)
-      → waiting_before records from + 1 ≡ waiting_before records (first + 1)
-  first_more from first (least, is, isnt) =
-      one_more records first (waiting_before records from)
-      (none_between from (first - from) (λ place late before. isnt place late
-      (omega (arith, before, least)))
-      ∙ ap (waiting_before records) (there from first least)) (sym is)
-    where
-      there : (m n : ℕ) → m ≤ n → m + (n - m) ≡ n
-      there m n le = omega (arith, le)

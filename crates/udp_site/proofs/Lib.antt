@@ -10,6 +10,7 @@ pub mod WaitingDeposits
 pub mod Search
 pub mod Settled
 pub mod Counted
+pub mod CountedFrom
 pub mod KeptRecords
 pub mod Waited
 pub mod Growth
