@@ -151,8 +151,8 @@ fn draw(rt: &HostRuntime, task: &RunTask<'_>, story: &Story, path: &str) -> Resu
             if has_other_ending(path) {
                 let mut name = String::new(rt.alloc());
                 push_name(&mut name, path)?;
-                let _ = eprintln!(
-                    rt; "note: {name} has a picture in SVG; end the name in .svg, or in .html for a page"
+                let _ = eprintln!(rt;
+                    "note: {name} has a picture in SVG; end the name in .svg, or in .html for a page"
                 );
             }
             Ok(0)

@@ -17,7 +17,8 @@ pub(crate) fn path_in(
             return Ok(None);
         };
         if let [name, number, path] = split_words(alloc, line)?.as_slice() {
-            if is_same(alloc, name, object)? && version_of(number) == version_of(version.as_bytes())
+            if is_same(alloc, name, object)?
+                && version_of(number) == version_of(version.as_bytes())
             {
                 return parse_text(alloc, path);
             }

@@ -61,11 +61,11 @@ fn say_unopened(rt: &HostRuntime, path: &str, error: &io::Error) {
         return say(rt, error);
     }
     let _ = match error.kind() {
-        ErrorKind::InvalidInput => eprintln!(
-            rt; "bagpaxos: the log can't be written, and the site goes on: {name} isn't a file"
+        ErrorKind::InvalidInput => eprintln!(rt;
+            "bagpaxos: the log can't be written, and the site goes on: {name} isn't a file"
         ),
-        _ => eprintln!(
-            rt; "bagpaxos: the log can't be written, and the site goes on: {name}: {error}"
+        _ => eprintln!(rt;
+            "bagpaxos: the log can't be written, and the site goes on: {name}: {error}"
         ),
     };
 }
