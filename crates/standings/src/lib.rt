@@ -6,7 +6,7 @@
 //!     rt,
 //!     port,
 //!     *number,
-//!     by_files,
+//!     known.versions,
 //!     sites.as_mut_slice(),
 //!     output,
 //! )?;
