@@ -16,7 +16,8 @@ from failing_allocation import CALL, RAX, RDI, RIP, RSP, SETREGS, SYSCALL, Trace
 
 RDX, RSI = 12, 13
 # The numbers of calls of the system.
-READ, WRITE, POLL, SENDTO, FLOCK, FSYNC, FTRUNCATE, GETDENTS = 0, 1, 7, 44, 73, 74, 77, 217
+READ, WRITE, POLL, SENDTO, RECVFROM, FLOCK, FSYNC = 0, 1, 7, 44, 45, 73, 74
+FTRUNCATE, GETDENTS = 77, 217
 CLOCK_NANOSLEEP, OPENAT, STATX = 230, 257, 332
 # What stands in place of the call that is asked for, so that none is made.
 NO_CALL = 2**64 - 1
@@ -47,10 +48,10 @@ class FalseClock:
     def __init__(self, words, input=os.devnull, output=os.devnull, error=os.devnull):
         self.traced = Traced([str(it) for it in words], str(input), str(output), str(error))
         self.words, self.now, self.events, self.loaded = words, 0, [], float("inf")
-        # Whether clocks can be read, and what the one that is set says at the beginning; how many
-        # bytes a read gives at most, if that is limited; and the error of a call, by its number and
-        # its first argument, if it fails.
-        self.can_tell, self.since, self.most = True, SINCE_1970, None
+        # Whether clocks can be read, and which of them can't by itself, by their numbers; what the
+        # one that is set says at the beginning; how many bytes a read gives at most, if that is
+        # limited; and the error of a call, by its number and its first argument, if it fails.
+        self.can_tell, self.untold, self.since, self.most = True, set(), SINCE_1970, None
         self.fails = lambda call, first: 0
 
     def run(self, costs=lambda event: 0, meanwhile=lambda event: None):
@@ -97,11 +98,12 @@ class FalseClock:
     def tells(self):
         """Answers a question for the time in place of the C library."""
         traced, registers = self.traced, self.traced.registers
-        began = self.since * SECOND if registers[RDI] & 0xFFFFFFFF == REALTIME else BEGAN
+        asked = registers[RDI] & 0xFFFFFFFF
+        began = self.since * SECOND if asked == REALTIME else BEGAN
         time = struct.pack("<qq", *divmod(began + self.now, SECOND))
         os.pwrite(traced.memory, time, registers[RSI])
         traced.returns_null()
-        if not self.can_tell:
+        if not self.can_tell or asked in self.untold:
             registers[RAX] = 2**64 - 1
             ptrace(SETREGS, traced.process, addressof(registers))
 
