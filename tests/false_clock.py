@@ -16,7 +16,7 @@ from failing_allocation import CALL, RAX, RDI, RIP, RSP, SETREGS, SYSCALL, Trace
 
 RDX, RSI = 12, 13
 # The numbers of calls of the system.
-READ, WRITE, POLL, SENDTO, RECVFROM, FLOCK, FSYNC = 0, 1, 7, 44, 45, 73, 74
+READ, WRITE, POLL, SENDTO, RECVFROM, BIND, FLOCK, FSYNC = 0, 1, 7, 44, 45, 49, 73, 74
 FTRUNCATE, GETDENTS = 77, 217
 CLOCK_NANOSLEEP, OPENAT, STATX = 230, 257, 332
 # What stands in place of the call that is asked for, so that none is made.
