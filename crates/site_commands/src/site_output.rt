@@ -1,6 +1,7 @@
 //! Standard output as a site writes it.
 
 ghost use Rattle.std.specs.Io.{WritesAtMost};
+ghost use Rattle.std.specs.Prelude.{◌≤◌, length};
 
 use site_log::SiteLog;
 use std::io::{self, Result, Write};
@@ -32,7 +33,7 @@ impl<'r, 'l, 's> SiteOutput<'r, 'l, 's> {
     fn write_now(&mut self, log: &SiteLog<'_>, buf: &[u8]) -> Result<usize>
         ensures { WritesAtMost result buf.now }
     {
-        let part = &buf[..buf.len().min(MOST_AT_ONCE)];
+        let part = whole_lines(buf);
         if takes_now(libc::STDOUT_FILENO) {
             return io::writer(self.rt).write(part);
         }
@@ -40,6 +41,16 @@ impl<'r, 'l, 's> SiteOutput<'r, 'l, 's> {
         log.blocked(u32::try_from(lines).unwrap_or(u32::MAX));
         Ok(part.len())
     }
+}
+
+// The whole lines among the bytes that are written at once: so that none is left out in part. If no
+// line ends there, these are all of them.
+fn whole_lines(buf: &[u8]) -> &[u8]
+    ensures { length result.now ≤ length buf.now }
+{
+    let front = &buf[..buf.len().min(MOST_AT_ONCE)];
+    let rest = front.iter().rev().position(|byte| *byte == b'\n');
+    &front[..front.len().saturating_sub(rest.unwrap_or(0))]
 }
 
 impl Write for SiteOutput<'_, '_, '_> {

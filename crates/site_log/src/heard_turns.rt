@@ -130,7 +130,7 @@ impl HeardTurns {
                 others: 0,
             },
             None => Subject {
-                heard: self.taken_in(),
+                heard: self.first_datagram(),
                 others: self.others(),
             },
         }
@@ -141,16 +141,21 @@ impl HeardTurns {
         self.heard.get(self.marks.len())
     }
 
-    // How many datagrams this batch has after its first turn.
-    fn others(&self) -> usize {
-        let first = self.marks.len().saturating_add(1);
-        let others = self.heard.iter().skip(first);
-        let datagrams = others.filter(|it| it.from.is_some()).count();
-        if self.carries {
-            datagrams.saturating_sub(1)
-        } else {
-            datagrams
+    // What came first for the batch that is taken in; if no datagram did, its first turn.
+    fn first_datagram(&self) -> Option<&Heard> {
+        let mut batch = self.heard.iter().skip(self.marks.len());
+        match batch.find(|it| it.from.is_some()) {
+            Some(first) => Some(first),
+            None => self.taken_in(),
         }
+    }
+
+    // How many datagrams this batch has beside its first.
+    fn others(&self) -> usize {
+        let batch = self.heard.iter().skip(self.marks.len());
+        let datagrams = batch.filter(|it| it.from.is_some()).count();
+        let carried = usize::from(self.carries);
+        datagrams.saturating_sub(carried).saturating_sub(1)
     }
 
     // Of the batch that is taken in no folder was read, and nothing is left for the next.
