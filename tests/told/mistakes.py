@@ -60,6 +60,24 @@ class Spoilt:
         head, dark, tail = style.text.rpartition("@media")
         style.text = head + dark + re.sub(classes_of, made, tail)
 
+    def restyle(self, one, other):
+        """Words of the style are others, where they stand first."""
+        style = self.drawn.find(f"{SVG}style")
+        style.text = style.text.replace(one, other, 1)
+
+    def loops(self):
+        """The lines of datagrams that sites have sent to themselves, and that arrived."""
+        groups = [it for it in self.drawn.iter(f"{SVG}g")]
+        return [it[1] for it in groups if "C" in it[1].get("d")]
+
+    def on_top(self, element):
+        self.drawn.remove(element)
+        self.drawn.append(element)
+
+    def unhead(self, place):
+        definitions = self.drawn.find(f"{SVG}defs")
+        definitions.remove(definitions[place])
+
     def exchange_shades(self):
         """The colours that are made are as light on a light sheet as they have to be on a dark one,
         and the other way round."""
@@ -101,6 +119,23 @@ def recoloured(element):
     words = [it[0] + turned(it[1:]) if re.fullmatch(r"[sf](\d+|[pr])", it) else it for it in
              classes(element)]
     element.set("class", " ".join(words))
+
+
+def turned(label):
+    """Words stand on the other side, and so does their box."""
+    is_left, far = "l" in classes(label), int(label.get("dx"))
+    label.set("class", classes(label)[-1] if is_left else f"l {classes(label)[-1]}")
+    label.set("dx", str(-far))
+
+
+def bent(loop, by):
+    for at in (2, 4):
+        moved(loop, at, by)
+
+
+def straight(loop):
+    places = numbers(loop.get("d"))
+    loop.set("d", "M{} {}L{} {}".format(*places[:2], *places[-2:]))
 
 
 def whole(label):
@@ -186,6 +221,30 @@ MISTAKES = {
     "two bags of one colour": lambda it: it.recolour("2", "1"),
     "no colour on a dark sheet": lambda it: it.recolour("2", ""),
     "shades of a light sheet on a dark one": lambda it: it.exchange_shades(),
+    "a box that is too wide": lambda it: put(it.of_class("box")[0], "width", 40 * ASIDE),
+    "a loop over the next column": lambda it: bent(it.loops()[0], 20 * ASIDE),
+    "a loop to the left": lambda it: bent(it.loops()[0], -6 * ASIDE),
+    "a loop that is a line": lambda it: straight(it.loops()[0]),
+    "words on the other side": lambda it: turned([one for one in it.labels() if not (
+        one.text or "#").startswith("#")][0]),
+    "no head of a plain arrow": lambda it: it.unhead(0),
+    "no head of a bag's arrow": lambda it: it.unhead(2),
+    "a head in another colour": lambda it: recoloured(it.drawn.find(f"{SVG}defs")[2][0]),
+    "a head that isn't turned": lambda it: it.drawn.find(f"{SVG}defs")[0].attrib.pop("orient"),
+    "an arrow above the words": lambda it: it.on_top(it.arrows()[0]),
+    "a column above the marks": lambda it: it.on_top(it.of_class("up")[0]),
+    "a gap below what is known": lambda it: it.on_top(it.of_class("knows")[-1]),
+    "a sheet above everything": lambda it: it.on_top(it.of_class("sheet")[0]),
+    "a view of another height": lambda it: it.drawn.set(
+        "viewBox", f"0 0 {it.drawn.get('width')} 90"),
+    "a mark unlike the legend's": lambda it: it.marks(VOTE)[:-1][0].set(
+        "class", it.marks(VOTE)[0].get("class").replace("m ", "")),
+    "words to the right of where they end": lambda it: it.restyle(".l{text-anchor:end}", ""),
+    "a dash that two have": lambda it: it.restyle("dasharray:1.5 3", "dasharray:5 3"),
+    "lines of which the inside is filled": lambda it: it.restyle("path.a{fill:none;", "path.a{"),
+    "a gap through which a column is seen": lambda it: it.restyle("width:8", "width:2"),
+    "a box that hides nothing": lambda it: it.restyle(".sheet,.box{", ".sheet{"),
+    "a style that names nothing": lambda it: it.restyle(".knows{", ".know{"),
     "a broken one's words exchanged": lambda it: exchanged(
         *[one for one in it.drawn.iter(f"{SVG}text") if one.get("dy") == "4" and not {"g", "n"} &
           set(classes(one))][:2], "y"),

@@ -5,17 +5,23 @@ import re
 import xml.etree.ElementTree as ElementTree
 from typing import NamedTuple
 
-from style import DARK, WHITE, colour_of as shade_of, contrast, nearest
+from style import (DARK, WHITE, colour_of as shade_of, contrast, declared, mistakes_in, nearest,
+                   sheets_of)
 
 SVG = "{http://www.w3.org/2000/svg}"
 # How far from a column an arrow may end; and how far from the middle of its row a stop may stand.
 NEAR, ROW = 12, 26
-# How many letters of words beside an event are seen; and how wide a letter of Helvetica is, in
-# thousandths of the height, by its published metrics. A box is no narrower.
+# How many letters of words beside an event are seen; and how wide a letter is, in thousandths of
+# the height, in the wider one of Helvetica and DejaVu Sans, by their published metrics; but `^`,
+# `|` and `-` are those of Helvetica. A box is no narrower.
 LETTERS, HIGH = 60, 12
-WIDTHS = {191: "'", 222: "ijl", 260: "|", 278: " !,./:;I[]\\ft\u00b7", 333: "()-`r", 334: "{}",
-          355: '"', 389: "*", 469: "^", 500: "Jckxsvyz", 584: "+<=>~", 611: "FTZ", 667: "&ABEKPSVXY",
-          722: "CDHNRUw", 778: "GOQ", 833: "Mm", 889: "%", 944: "W", 1000: "\u2026", 1015: "@"}
+WIDTHS = {260: "|", 275: "'", 278: "ijl", 295: "I", 318: " ,.\u00b7", 333: "-", 337: "/:;\\",
+          352: "f", 390: "()[]", 392: "t", 401: "!", 411: "r", 460: '"', 469: "^", 500: "*J`",
+          521: "s", 525: "z", 550: "c", 556: "?_", 557: "L", 579: "k", 592: "vxy", 611: "FT",
+          612: "o", 613: "a", 615: "e", 634: "hnu", 635: "bdgpq", 636: "$0123456789{}",
+          667: "EKPSY", 684: "AV", 685: "XZ", 686: "B", 722: "CR", 732: "U", 748: "N", 752: "H",
+          770: "D", 778: "G", 780: "&", 787: "OQ", 818: "w", 838: "#+<=>~", 863: "M", 950: "%",
+          974: "m", 989: "W", 1000: "\u2026", 1015: "@"}
 WIDTHS = {it: wide for wide, letters in WIDTHS.items() for it in letters}
 # Sites are named again after about so many rows' height; and so far from any row, at least.
 SCREENFUL, ASIDE = 25 * 26, 18
@@ -31,6 +37,18 @@ MARKS = {
 }
 NUMBERS = r"-?\d+(?:\.\d+)?"
 DOT = "2.5"
+# What lies above what: columns, what sites know, where they are down, names, repeats, arrows,
+# marks, words with their boxes, and the legend.
+LAYERS = {"sheet": 0, "up": 1, "knows": 2, "gap": 3, "down": 3, "failed": 3, "site": 4, "name": 4,
+          "again": 5, "datagram": 6, "box": 8, "n": 8, "g": 9}
+MARK_LAYER, WORDS_LAYER, LEGEND_LAYER = 7, 8, 9
+# The classes of a style besides those of colours. Which ones are dashed, each in another way, of
+# which only the line is seen, and which are as the sheet that is below them.
+STYLED = set("sheet box l n g name site up knows gap down failed a b again x m o c".split())
+DASHED = ("path.b", "path.again", ".down", ".failed")
+HOLLOW = ("path.a", ".x", ".c")
+AS_SHEETS = {".sheet": "fill", ".box": "fill", ".o": "fill", ".gap": "stroke", ".m": "stroke",
+             ".c": "stroke"}
 
 
 # The colours that were chosen: of what names no bag, of refusals, and of the bags of the trees 1 to 8,
@@ -73,13 +91,15 @@ class Mark(NamedTuple):
 
 
 class Way(NamedTuple):
-    """An arrow's line: from where to where, its colour and classes, and whether it has a head."""
+    """An arrow's line: from where to where, its colour and classes, whether it has a head, and the
+    places towards which it bends."""
 
     begin: tuple
     end: tuple
     colour: str
     classes: frozenset
     has_head: bool
+    bends: tuple
 
 
 def colour_of(tree):
@@ -175,7 +195,7 @@ class Labels:
 
 def end_of_words(words):
     """Where words end that begin beside a place; to the left, where they stand there."""
-    wide = int(sum(WIDTHS.get(it, 556) for it in words_of(words)[0]) * HIGH / 1000)
+    wide = int(sum(WIDTHS[it] for it in words_of(words)[0]) * HIGH / 1000)
     beside = int(words.get("dx", 0))
     return int(words.get("x")) + beside + (-wide if "l" in classes(words) else wide)
 
@@ -206,6 +226,11 @@ def letter(element, prefix):
     return found[0] if found else ""
 
 
+def kinds_of(element):
+    """The classes of an element, but for that of its colour."""
+    return frozenset(it for it in classes(element) if not re.fullmatch(r"[sf](\d+|[pr])", it))
+
+
 def place_of(element):
     """Where a shape stands, and what it is without that place."""
     if element.tag == f"{SVG}circle":
@@ -225,8 +250,8 @@ def way_of(path):
     colour = letter(path, "s")
     head = path.get("marker-end")
     claim(head in (None, f"url(#h{colour})"), f"another head: {path.attrib}")
-    kinds = frozenset(classes(path)) - {f"s{colour}"}
-    return Way(tuple(found[:2]), tuple(found[-2:]), colour, kinds, head is not None)
+    places = tuple(zip(found[::2], found[1::2]))
+    return Way(places[0], places[-1], colour, kinds_of(path), head is not None, places[1:-1])
 
 
 class Picture:
@@ -251,6 +276,9 @@ class Picture:
         self.check_stub_words()
         self.check_inside()
         self.check_colours()
+        self.check_layers()
+        self.check_heads()
+        self.check_style()
 
     # ---- columns and rows
 
@@ -312,10 +340,12 @@ class Picture:
             same(f"{what}: colour", letter(label, "f"), self.labels.colour(event))
             same(f"{what}: side", ("l" in classes(label)), label.get("dx") == "-13")
             # An arrow doesn't end among the words: one from the left has them on the right, and one
-            # from the right, as each to its sender, on the left.
+            # from the right, as each to its sender, on the left. Other words are on the left, but
+            # for the last site of several.
+            is_left = event.site == 1 or event.site < len(self.run.weights)
             if event.delivered:
                 is_left = event.delivered.sender >= event.delivered.to
-                same(f"{what}: away from its arrow", "l" in classes(label), is_left)
+            same(f"{what}: its side", "l" in classes(label), is_left)
             row = int(label.get("y"))
             claim(last < row < self.bottom, f"{what}: row {row} below {last}")
             self.rows[place], last = row, row
@@ -333,6 +363,8 @@ class Picture:
         line = int(label.get("y")) + int(label.get("dy"))
         claim(x <= begin and end <= x + wide, f"{what}: a box from {x} to {x + wide}")
         claim(y <= line - 10 and line + 3 <= y + high, f"{what}: a box from {y} to {y + high}")
+        # Fonts are of different widths, but none of twice that of another.
+        claim(wide <= 2 * (end - begin) + NEAR, f"{what}: a box that is {wide} wide")
         over = [it for it in self.columns.values() if x < it < x + wide]
         claim(not over and 0 <= x and x + wide <= self.wide, f"{what}: its box is over a column")
 
@@ -356,7 +388,7 @@ class Picture:
                 continue
             places, words = [place_of(it) for it in shapes], place_of_words(element)
             same(f"where the legend has {element.text}", {it[:2] for it in places}, {words})
-            found = [(it.tag, place[2]) for it, place in zip(shapes, places)]
+            found = [(it.tag, place[2], kinds_of(it)) for it, place in zip(shapes, places)]
             if element.text in MARKS:
                 self.shapes[MARKS[element.text]] = found
                 same(f"the colours of {element.text}", {letter(it, "[sf]") for it in shapes} <=
@@ -365,6 +397,8 @@ class Picture:
                 bags.append((element.text, letter(shapes[0], "f")))
             shapes = []
         same("marks of the legend", sorted(self.shapes), sorted(MARKS.values()))
+        same("a broken line, crossed", [it[2] for it in self.shapes["lost"]],
+             [frozenset("ab"), frozenset("x")])
         claim(len({str(it) for it in self.shapes.values()}) == len(MARKS), "two marks are alike")
         trees = dict.fromkeys(it.tree for it in self.run.events if it.tree)
         same("bags of the legend", bags, [(f"bag {it}", colour_of(it)) for it in trees])
@@ -420,15 +454,17 @@ class Picture:
         wanted = list(self.marks())
         for mark in wanted:
             claim(marks, f"no {mark}")
-            shapes = self.shapes.get(mark.kind) or [(f"{SVG}circle", f"circle {DOT}")]
+            dot = f"{SVG}circle", f"circle {DOT}", frozenset()
+            shapes = self.shapes.get(mark.kind) or [dot]
             taken, marks = marks[: len(shapes)], marks[len(shapes) :]
             self.check_mark(mark, taken, shapes)
         same("more marks", [it.attrib for it in marks], [])
 
     def check_mark(self, mark, taken, shapes):
         is_stop = mark.kind == "stop"
-        for element, (tag, shape) in zip(taken, shapes):
+        for element, (tag, shape, kinds) in zip(taken, shapes):
             x, y, found = place_of(element)
+            same(f"{mark}: classes", kinds_of(element), kinds)
             if is_stop:
                 # A cross, somewhat lower than its row, so that a record's mark is seen.
                 moved = numbers(found)
@@ -490,8 +526,9 @@ class Picture:
                 middles = [(self.columns[sent.to], self.rows[place])]
         found = [place_of(it) for it in crosses]
         same(f"{what}: its crosses", [it[:2] for it in found], middles)
-        cross = self.shapes["stop"][0][1]
-        same(f"{what}: crosses", [it[2] for it in found], [cross for _ in middles])
+        cross = self.shapes["stop"][0][1:]
+        crossed = [(it[2], kinds_of(one)) for it, one in zip(found, crosses)]
+        same(f"{what}: crosses", crossed, [cross for _ in middles])
         colours = [letter(it, "s") for it in crosses]
         same(f"{what}: their colour", colours, [way.colour for _ in middles])
 
@@ -503,11 +540,19 @@ class Picture:
         is_left = sent.sender < sent.to
         claim(0 < abs(beside) <= NEAR and (beside < 0) == is_left, f"{what}: it ends at {x}")
         same(f"{what}: the row of its end", y, self.rows[place])
+        # One to its sender goes out to the right and comes back before the next column.
+        begin = self.columns[sent.sender]
+        is_loop = sent.sender == sent.to
+        same(f"{what}: bends", [it for _, it in way.bends], [way.begin[1], y] if is_loop else [])
+        after = [it for it in self.columns.values() if it > begin]
+        for bend, _ in way.bends:
+            claim(x < bend < min([self.wide, *after]), f"{what}: it bends to {bend}")
 
     def check_broken(self, what, sent, way):
         """One that was never delivered breaks off on the side of its addressee, before the next
         column and the next row; one to its sender on the right."""
         same(f"{what}: its classes", (way.classes, way.has_head), (frozenset("ab"), False))
+        same(f"{what}: bends", way.bends, ())
         x, y = way.end
         beside = x - way.begin[0]
         gap = min((abs(it - way.begin[0]) for it in self.columns.values() if it != way.begin[0]),
@@ -590,3 +635,72 @@ class Picture:
         grounds = [f"fill:{it}}}" in one for one, it in ((light, WHITE), (dark, DARK))]
         same("sheets", grounds, [True, True])
         claim(".sheet,.box" in light and ".sheet,.box" in dark, "a sheet that is neither")
+
+    # ---- what is above what, and how it looks
+
+    def layer_of(self, place, element):
+        """What an element is, as a number: what has a greater one comes later, and lies above."""
+        found = [LAYERS[it] for it in classes(element) if it in LAYERS]
+        if found:
+            return found[0]
+        if element.tag == f"{SVG}text":
+            return WORDS_LAYER
+        return MARK_LAYER if place < self.marked else LEGEND_LAYER
+
+    def check_layers(self):
+        """A sheet is below everything, and each layer above those before it."""
+        sheet = self.elements[0]
+        same("a sheet", [sheet.get(it) for it in ("class", "x", "y", "width", "height")],
+             ["sheet", None, None, "100%", "100%"])
+        same("the view", self.drawn.get("viewBox"), f"0 0 {self.wide} {self.high}")
+        layers = [self.layer_of(*it) for it in enumerate(self.elements)]
+        same("layers, from below", layers, sorted(layers))
+        same("sheets", layers.count(0), 1)
+
+    def check_heads(self):
+        """Each colour has an arrowhead, which is turned as its line, and ends where this ends."""
+        heads = self.drawn.findall(f"{SVG}defs/{SVG}marker")
+        trees = dict.fromkeys(it.tree for it in self.run.events if it.tree)
+        wanted = ["hp", "hr", *(f"h{it}" for it in trees)]
+        same("arrowheads", [it.get("id") for it in heads], wanted)
+        for head in heads:
+            same("the parts of an arrowhead", len(head), 1)
+            same(f"the colour of {head.get('id')}", letter(head[0], "f"), head.get("id")[1:])
+            same("an arrowhead is turned", head.get("orient"), "auto")
+            _, top, tip, middle, back, bottom = numbers(head[0].get("d"))
+            same("a tip in the middle", (middle - top, back), (bottom - middle, 0))
+            end = int(head.get("refX")), int(head.get("refY"))
+            is_tip = tip - 1 <= end[0] <= tip and end[1] == middle
+            claim(is_tip, f"a line ends at {end} of its head")
+
+    def check_style(self):
+        """The style names what there is, in words of CSS. It tells dashed lines apart, has words
+        end where those to the left have to, and hides what is below a gap, a box or a ring."""
+        light, dark = sheets_of(self.drawn.find(f"{SVG}style").text)
+        shades = {it[1:] for names, _ in light for it in re.findall(r"\.[sf](?:\d+|[pr])$", names)}
+        for sheet in (light, dark):
+            same("what the style names", list(mistakes_in(sheet, STYLED | shades, set())), [])
+        said = lambda selector, name: declared(light, selector, name)
+        same("to the left", (said(".l", "text-anchor"), said("text", "text-anchor")), ("end", None))
+        same("names", said(".name", "text-anchor"), "middle")
+        same("how high words are", said("text", "font").split()[0], f"{HIGH}px")
+        dashes = [said(it, "stroke-dasharray") for it in DASHED]
+        claim(None not in dashes and len(set(dashes)) == len(dashes), f"dashes: {dashes}")
+        whole = [said(it, "stroke-dasharray") for it in ("path.a", ".up", ".knows", ".gap", ".x")]
+        same("whole lines", whole, 5 * [None])
+        same("only lines", [said(it, "fill") for it in HOLLOW], len(HOLLOW) * ["none"])
+        for name, sheet in ((light, WHITE), (light + dark, DARK)):
+            shown = {it: declared(name, it, what) for it, what in AS_SHEETS.items()}
+            same("as the sheet", shown, dict.fromkeys(AS_SHEETS, sheet))
+            for text, ground in ((".n", sheet), (".g", sheet), (".name", None)):
+                ground = ground or declared(name, ".site", "fill")
+                seen = contrast(declared(name, text, "fill"), ground)
+                claim(seen > (2 if text == ".n" else 3), f"{text} isn't seen on {ground}")
+            # Columns are pale, and a site whose device has failed has the colour of refusals.
+            for line in (".up", ".down"):
+                seen = contrast(declared(name, line, "stroke"), sheet)
+                claim(1.4 < seen < 3, f"{line}, seen on {sheet} by {seen}")
+            same("failed", declared(name, ".failed", "stroke"), CHOSEN["r"][sheet == DARK])
+            same("a ring", declared(name, ".o", "stroke"), CHOSEN["p"][0])
+        widths = [float(said(it, "stroke-width")) for it in (".gap", ".knows", ".up")]
+        claim(widths == sorted(set(widths), reverse=True), f"a gap covers a column: {widths}")
