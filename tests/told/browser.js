@@ -12,6 +12,7 @@
     head: of(it, 'h3').map((head) => head.textContent),
     colours: of(it, 'li').map((sent) => sent.className),
     tags: [...it.children].map((child) => child.tagName),
+    classes: [...it.children].map((child) => child.className),
     marked: of(it, 'td').map((cell) => cell.className === 'new'),
     way: of(it, 'li').map((sent) => sent.textContent),
   });

@@ -64,8 +64,8 @@ class Element {
 
 let made;
 
-// A page that is open, with a clock that only counts.
-function opened(page) {
+// A page that is open at an address, with a clock that only counts.
+function opened(page, hash) {
   made = new Map(page.ids.map((id) => [id, new Element(id === 'play' ? 'button' : 'div', id)]));
   made.get('run').textContent = page.run;
   made.get('play').textContent = 'Play';
@@ -84,7 +84,7 @@ function opened(page) {
       addEventListener: (name, act) => { told.keys[name] = act; }
     },
     window: { addEventListener: (name, act) => { told.window[name] = act; } },
-    location: { hash: '' },
+    location: { hash },
     history: { replaceState: (_, __, hash) => { context.location.hash = hash; } },
     setInterval: (act, pause) => { told.clock = act; told.pause = pause; return 1; },
     clearInterval: () => { told.clock = null; }
@@ -109,6 +109,7 @@ function seen(view) {
     head: card.of('H3').map((it) => it.textContent),
     colours: card.of('LI').map((it) => it.className),
     tags: card.children.map((it) => it.tagName),
+    classes: card.children.map((it) => it.className),
     marked: card.of('TD').map((it) => it.className === 'new'),
     way: card.of('LI').map((it) => it.textContent)
   }));
@@ -125,7 +126,7 @@ function seen(view) {
 
 // All steps, forth by each way in turn, and back.
 function journey(page, count) {
-  const view = opened(page);
+  const view = opened(page, '');
   const forth = [seen(view)];
   const ways = [() => view.press('ArrowRight'), () => view.click('next')];
   for (let step = 1; step <= count; step += 1) {
@@ -138,7 +139,12 @@ function journey(page, count) {
     returns[step % 2]();
     back.unshift(seen(view));
   }
-  return { forth, back: [...back, forth[count]], played: playedFrom(view, count), others: others(view, count) };
+  const told = { forth, back: [...back, forth[count]], played: playedFrom(view, count) };
+  told.others = others(view, count);
+  // Pages that are opened at an address, as from a link.
+  const addresses = ['#1', `#${count}`, '#x', `#${count + 9}`];
+  told.linked = addresses.map((address) => seen(opened(page, address)).count);
+  return told;
 }
 
 // What is seen while it plays, to its end.
