@@ -221,6 +221,9 @@ MISTAKES = {
     "two bags of one colour": lambda it: it.recolour("2", "1"),
     "no colour on a dark sheet": lambda it: it.recolour("2", ""),
     "shades of a light sheet on a dark one": lambda it: it.exchange_shades(),
+    "a name beside its box": lambda it: put(it.of_class("site")[0], "x", ASIDE),
+    "a legend that is too low": lambda it: it.drawn.set("height", str(
+        int(it.of_class("g")[-1].get("y")) + 1)),
     "a box that is too wide": lambda it: put(it.of_class("box")[0], "width", 40 * ASIDE),
     "a loop over the next column": lambda it: bent(it.loops()[0], 20 * ASIDE),
     "a loop to the left": lambda it: bent(it.loops()[0], -6 * ASIDE),

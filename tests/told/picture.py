@@ -291,6 +291,12 @@ class Picture:
             weight = f", weight {self.run.weights[site - 1]}" if self.words.has_weights else ""
             same("the name of a site", name.text, f"site {site}{weight}")
             x, y = int(name.get("x")), int(name.get("y"))
+            box, line = self.elements[self.elements.index(name) - 1], y + int(name.get("dy"))
+            wide, high = int(box.get("width")), int(box.get("height"))
+            found = [box.get(it) for it in ("class", "x", "y", "transform")]
+            middle = ["site", str(x), str(y), f"translate(-{wide // 2} 0)"]
+            same(f"the box of site {site}", found, middle)
+            claim(y + HIGH < line < y + high - 3, f"site {site} in its box: {line}")
             heights.setdefault(y, []).append(site)
             same(f"the names of site {site}", x, self.columns.setdefault(site, x))
         same("sites", list(self.columns), list(range(1, len(self.run.weights) + 1)))
@@ -396,12 +402,24 @@ class Picture:
             else:
                 bags.append((element.text, letter(shapes[0], "f")))
             shapes = []
+        self.check_entries([it for it in self.elements[at:] if it.tag == f"{SVG}text"])
         same("marks of the legend", sorted(self.shapes), sorted(MARKS.values()))
         same("a broken line, crossed", [it[2] for it in self.shapes["lost"]],
              [frozenset("ab"), frozenset("x")])
         claim(len({str(it) for it in self.shapes.values()}) == len(MARKS), "two marks are alike")
         trees = dict.fromkeys(it.tree for it in self.run.events if it.tree)
         same("bags of the legend", bags, [(f"bag {it}", colour_of(it)) for it in trees])
+
+    def check_entries(self, entries):
+        """The legend is below the sites' names. Each entry ends before the next one's mark, or this
+        is below it, as far to the left as the first one."""
+        places = [place_of_words(it) for it in entries]
+        claim(places[0][1] > self.bottom + HIGH, f"a legend at {places[0]}")
+        claim(places[-1][1] + HIGH <= self.high, f"a legend that ends at {places[-1]}")
+        for words, (x, y), (then, below) in zip(entries, places, places[1:]):
+            is_beside = below == y and end_of_words(words) < then - NEAR
+            is_below = below >= y + HIGH + 4 and then == places[0][0]
+            claim(is_beside or is_below, f"the entry beside or below {words.text}")
 
     def check_columns(self):
         """Each site's column; where it is down or has failed; and what it knows."""
