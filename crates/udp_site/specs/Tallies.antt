@@ -1,5 +1,5 @@
 -- When a site counts, and what its port says of that. Moments are microseconds.
-use Rattle.std.specs.Prelude.{ℕ, ◌-◌, ◌*◌, ◌<=◌, Bool, Option, Some, None}
+use Rattle.std.specs.Prelude.{ℕ, ◌-◌, ◌*◌, nat_lt, Bool, not, Option, Some, None}
 use Rattle.std.specs.Option.{option_map}
 use Rattle.udp_site.specs.declared.status.Counts.{Counts}
 use Rattle.udp_site.specs.declared.status.Standing.{Standing}
@@ -11,7 +11,8 @@ none_counted = record { counts = None; began = 0; ended = 0 }
 
 -- Counting is due once a hundred times as long as it took last has passed since it ended.
 abbrev pub counts_are_due : Tally → (now : ℕ) → Bool
-counts_are_due tally now = (tally.ended - tally.began) * 100 <= (now - tally.ended)
+counts_are_due tally now =
+    not (nat_lt (now - tally.ended) ((tally.ended - tally.began) * 100))
 
 -- it begins to count
 abbrev pub begins_counting : Tally → (now : ℕ) → Tally

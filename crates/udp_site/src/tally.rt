@@ -38,7 +38,7 @@ impl Tally {
         let took = self.ended.saturating_sub(self.began);
         let since = now.saturating_sub(self.ended);
         match took.checked_mul(REST) {
-            Some(rest) => rest <= since,
+            Some(rest) => since >= rest,
             None => false,
         }
     }
