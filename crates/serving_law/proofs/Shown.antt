@@ -25,6 +25,7 @@ use Rattle.dgram.specs.Heard.{bodies_of, floor_of, voters_for}
 use Rattle.dgram.specs.Messages.{IsMessage}
 use Rattle.dgram.proofs.MessageOf.{message_of-again}
 use Rattle.learner.specs.declared.row.Row.TheVariants as rows
+use Rattle.lines.specs.declared.notice.Notice.TheVariants.{Learned}
 use Rattle.site.specs.declared.answer.Answer.{Answer}
 use Rattle.site.specs.declared.answer.Line.TheVariants as site_lines
 use Rattle.site.specs.Arrivals.{on_arrival}
@@ -44,7 +45,7 @@ use Rattle.serving_law.specs.ExamplesAgreed.{three, a}
 use Rattle.serving_law.specs.ExamplesShown.{Replies, RepliesAreReports, drops, DropsBoth}
 use Rattle.serving_law.specs.ExamplesShown.{DepositsAreValid, NoiseIsDropped}
 use Rattle.serving_law.specs.Federations.{Step, Turns, after, new_federation}
-use Rattle.serving_law.specs.Reports.{Showing, IsTold, OnRecord}
+use Rattle.serving_law.specs.Reports.{Showing, IsPrinted, IsTold, OnRecord}
 use Rattle.serving_law.specs.Rules.{AreBytes, IsOfMember, MayAll}
 use Rattle.serving_law.proofs.AgreedMessages.{is_slot, is_bag}
 use Rattle.serving_law.proofs.Agreement.{three_are}
@@ -96,8 +97,21 @@ replies_are_reports federation step slot bag is_slot is_bag = record {
         told federation step slot (DepositReply 1 (deposit.Registered bag))
             (is_slot, (one, is_bag)) replies,
       );
+  printed = λ notices.
+      let begun : IsPrinted one_byte (Learned 1 slot bag) = record {
+        before = [];
+        later = [];
+        split = notices;
+        begun = omega arith;
+      } in (
+        inl (Learned 1 slot bag, (one_byte, refl, begun), refl),
+        inl (one_byte, refl, begun),
+      );
 }
   where
+    one_byte : Showing
+    one_byte = record { turn = step.turn; handed = 0; written = 1 }
+
     one : IsSiteNumber 1
     one = (omega arith, omega arith)
 

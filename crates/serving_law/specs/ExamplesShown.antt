@@ -13,7 +13,7 @@ use Rattle.dgram.specs.declared.answers.QueryAnswer.TheVariants as query
 use Rattle.dgram.specs.declared.body.Body.{Body}
 use Rattle.dgram.specs.declared.body.Body.TheVariants.{DepositReply, QueryReply, Known}
 use Rattle.dgram.specs.Encoding.{datagram_of}
-use Rattle.lines.specs.declared.notice.Notice.TheVariants.{Dropped}
+use Rattle.lines.specs.declared.notice.Notice.TheVariants.{Dropped, Learned}
 use Rattle.udp_site.specs.Requests.{Deposits, Noise, request_of}
 use Rattle.udp_site.specs.Served.{Turned}
 use Rattle.udp_site.specs.Traffic.{From}
@@ -49,6 +49,10 @@ pub record RepliesCount (federation : ℕ) (step : Step Disk) (slot : SlotName) 
       × SaysKnown federation (hands_out step) 1 slot bag
   pub registered : Replies federation step slot (DepositReply 1 (deposit.Registered bag))
       → Registers federation (hands_out step) 1 slot bag
+  -- Or its line says so, of which a byte was written.
+  pub printed : step.turn.done.notices ≡ Learned 1 slot bag ∷ []
+      → Reports federation (Turns 1 step 0 1) slot bag
+      × SaysKnown federation (Turns 1 step 0 1) 1 slot bag
 
 abbrev pub RepliesAreReports : Type 0
 RepliesAreReports =

@@ -20,7 +20,7 @@ use std::alloc::{AllocError, Global};
 const MOST_TURNS: u32 = 64;
 
 /// How many bytes of bags are read at most while the records of a batch wait for their sync.
-const MOST_READ: u64 = 1 << 20;
+const MOST_READ: u64 = 1_048_576;
 
 /// Takes in the turns of a batch, at least one and no more than are left. What was carried is the
 /// first. A deposit joins others if its bag is small; else it is carried to the next batch, so that
