@@ -19,7 +19,7 @@ there : (m n : ℕ) → m ≤ n → m + (n - m) ≡ n
 there m n le = omega (arith, le)
 
 module _ (records : List Record) where
-  counted : ℕ → ℕ
+  abbrev counted : ℕ → ℕ
   counted place = waiting_before records place
 
   -- as many, where none waits in between

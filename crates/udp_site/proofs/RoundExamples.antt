@@ -164,7 +164,12 @@ pub spent_rounds_are_not_said : (input : Input)
     → proposal_notices 2 input (Err faults.RoundsSpent) ≡ []
 spent_rounds_are_not_said input = refl
 
--- nor, of a recovery that a client asks for, that a bag is known or there is nothing to recover
+-- nor is it of a recovery that a client asks for
+pub spent_rounds_of_a_recovery : (input : Input)
+    → recovery_notices 2 input (Err faults.RoundsSpent) ≡ []
+spent_rounds_of_a_recovery input = refl
+
+-- nor, of one, that a bag is known or there is nothing to recover
 pub known_is_not_said : (input : Input) → recovery_notices 2 input (Err faults.AlreadyKnown) ≡ []
 known_is_not_said input = refl
 
