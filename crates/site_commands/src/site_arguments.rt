@@ -73,8 +73,9 @@ says why in words:
   TIME - why: the cell is damaged; keep the file; the site is lost, and ..
 With --key the first line ends with `, keys NAME NAME`, the names of the two
 keys that it sends with.
-If the log can't be written, or isn't a file, standard error says so once, and
-the site goes on.
+If the log can't be written, or isn't a file, or is a file that doesn't begin as
+a log does, standard error says so once, and the site goes on; nothing is
+written into that file.
 
 The log has at most 60 lines a minute of one address and one first word; all
 lines `known` are in it. Those after them are counted, and once the minute is
