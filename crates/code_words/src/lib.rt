@@ -44,7 +44,7 @@ pub use asked::Asked;
 pub use bag_codes::{INVALID, UNREAD, invalid, unread};
 pub use cell_codes::{OPEN, STOPPED};
 pub use meaning::Meaning;
-pub use name::{push_name, push_quoted};
+pub use name::{push_name, push_path, push_quoted};
 pub use of_line::meaning_of_line;
 pub use other_codes::OTHERS;
 pub use place_pair::push_pair_words;

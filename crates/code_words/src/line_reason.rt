@@ -1,8 +1,9 @@
 //! What a line of `site` or `send` says.
 
 use crate::asked::Asked;
-use crate::cell_reason::{push_cell_reason, push_other_file};
-use crate::file_reason::push_file_reason;
+use crate::cell_reason::{other_file, push_cell_reason};
+use crate::file_reason::{is_piped, push_file_reason};
+use crate::key_reason::key_reason;
 use crate::meaning::Meaning;
 use crate::members_reason::{place_of, push_line_reason, push_stranger};
 use crate::name::push_name;
@@ -145,6 +146,10 @@ fn push_silence(rt: &HostRuntime, text: &mut String, asked: &Asked<'_>) -> Resul
         match place {
             Place::Port(port) => write!(text, " at port {port}")?,
             Place::Address(address) => write!(text, " at {address}")?,
+        }
+        Some(key) if is_piped(rt, key) => {
+            push_name(text, key)?;
+            text.push_str(" isn't a file, as a key file is")
         }
     }
     if asked.path.is_some() {
