@@ -20,6 +20,7 @@ mod code_of_line;
 mod federation_line;
 mod file_reason;
 mod form;
+mod key_reason;
 mod kind;
 mod line_reason;
 mod meaning;
