@@ -2,6 +2,7 @@
 
 use addresses::Address;
 use clap::{Arg, ArgAction, ArgMatches, Command, value_parser};
+use code_words::{push_place_words, push_quoted};
 use fed_types::{GREATEST_SITE, SiteNo};
 use std::alloc::{AllocError, Global};
 use udp_site::Waits;
@@ -127,7 +128,10 @@ or if standard output can't be written; and 2 for a mistake in the arguments.
 Example:
   bagpaxos site --members members --number 1 --cell cell.1 --forever --wait 100";
 
-/// What is no address for `--listen`.
+/// What is amiss with the waits.
+const TOO_SHORT: &str = "--wait-most is less than --wait";
+
+/// What `--listen` takes.
 const NO_ADDRESS: &str =
     "--listen is an address and a port, as 192.0.2.1:42001 or [2001:db8::1]:42001";
 
@@ -176,17 +180,32 @@ pub enum Turns {
 
 impl SiteTask<'_> {
     /// What is amiss in the arguments beyond what each by itself may be, if anything is.
-    pub fn mistake(&self, alloc: Global) -> Result<Option<&'static str>, AllocError> {
+    pub fn mistake(&self, alloc: Global) -> Result<Option<String>, AllocError> {
         if self.waits.most < self.waits.first {
-            return Ok(Some("--wait-most is less than --wait"));
+            return Ok(Some(String::from_str(alloc, TOO_SHORT)?));
         }
-        if let Some(listen) = self.listen {
-            if Address::parse(alloc, listen.as_bytes())?.is_none() {
-                return Ok(Some(NO_ADDRESS));
-            }
+        match self.listen {
+            Some(listen) => listen_fault(alloc, listen),
+            None => Ok(None),
         }
-        Ok(None)
     }
+}
+
+// Why a site can't listen at this, if it is no address and a port.
+fn listen_fault(alloc: Global, listen: &str) -> Result<Option<String>, AllocError> {
+    if Address::parse(alloc, listen.as_bytes())?.is_some() {
+        return Ok(None);
+    }
+    let mut text = String::from_str(alloc, "--listen ")?;
+    if listen.contains(':') || listen.contains('.') {
+        push_place_words(&mut text, listen.as_bytes())?;
+    } else {
+        push_quoted(&mut text, listen)?;
+        text.push_str(" is no address and a port")?;
+    }
+    text.push_str("; ")?;
+    text.push_str(NO_ADDRESS)?;
+    Ok(Some(text))
 }
 
 /// What these arguments of the command ask for.
