@@ -106,7 +106,7 @@ The exit status is 0 after the last turn; 1 if a last line says why it stopped:
                     file's list
   not a member      the members file has no such site
   same file         two of --cell, --members and --log name one file, as
-                    standard error says
+                    standard error says; or standard error is the cell
   key unread        the key file can't be read
   key open to others
                     others than its owner have rights to the key file
@@ -123,7 +123,8 @@ The exit status is 0 after the last turn; 1 if a last line says why it stopped:
   stopped N         a receive failed (1), the cell failed (2), or out of memory
                     (3)
   memory            out of memory
-or if standard output can't be written; and 2 for a mistake in the arguments.
+or if standard output can't be written, or is the cell; and 2 for a mistake in
+the arguments.
 
 Example:
   bagpaxos site --members members --number 1 --cell cell.1 --forever --wait 100";
