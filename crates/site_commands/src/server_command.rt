@@ -33,9 +33,6 @@ use udp_site::{Port, UdpPort};
 /// it is opened before all else, so that it has what ends the site.
 pub fn serve_site<'a>(rt: &'a HostRuntime, task: &SiteTask<'a>) -> Result<u8, ProgramFault> {
     let _held = Held::places(rt);
-    if task.words {
-        say_hyphens(rt, task);
-    }
     match refuses_outputs(rt, task) {
         Ok(false) => serve(rt, task),
         Ok(true) => Ok(1),
@@ -56,8 +53,8 @@ fn say_hyphens(rt: &HostRuntime, task: &SiteTask<'_>) {
 // Whether an output is the cell, into which each line would go. The other output says so; where
 // both are the cell, nobody is told.
 fn refuses_outputs(rt: &HostRuntime, task: &SiteTask<'_>) -> Result<bool, AllocError> {
-    let output = is_same_file(rt, OUTPUT, task.cell)?;
-    let errors = is_same_file(rt, ERRORS, task.cell)?;
+    let output = is_cell(rt, OUTPUT, task)?;
+    let errors = is_cell(rt, ERRORS, task)?;
     if output && !errors {
         say_output(rt, task.cell);
     }
@@ -67,7 +64,18 @@ fn refuses_outputs(rt: &HostRuntime, task: &SiteTask<'_>) -> Result<bool, AllocE
     Ok(output || errors)
 }
 
+// Whether this output is the file of the cell.
+fn is_cell(rt: &HostRuntime, output: &str, task: &SiteTask<'_>) -> Result<bool, AllocError> {
+    match fs::metadata(rt, output) {
+        Ok(found) if found.is_file() => is_same_file(rt, output, task.cell),
+        _ => Ok(false),
+    }
+}
+
 fn serve<'a>(rt: &'a HostRuntime, task: &SiteTask<'a>) -> Result<u8, ProgramFault> {
+    if task.words {
+        say_hyphens(rt, task);
+    }
     let Some(path) = task.log else {
         return equip_and_serve(rt, task, None, &mut output_of(rt, task, None));
     };
