@@ -3,6 +3,7 @@
 use code_words::push_name;
 use std::alloc::AllocError;
 use std::fs;
+use std::os::unix::fs::FileTypeExt;
 
 /// The path by which a source is read: `-` is standard input.
 pub(crate) fn path_to_read(path: &str) -> &str {
@@ -23,11 +24,18 @@ pub fn is_piped(rt: &HostRuntime, path: &str) -> bool {
 /// The first of these paths whose bytes come through a pipe that the process was given open.
 pub fn first_piped<'a>(rt: &HostRuntime, paths: &[&'a str]) -> Option<&'a str> {
     for path in paths {
-        if is_given(path) && is_piped(rt, path) {
+        if is_given(path) && is_pipe(rt, path) {
             return Some(*path);
         }
     }
     None
+}
+
+fn is_pipe(rt: &HostRuntime, path: &str) -> bool {
+    match fs::metadata(rt, path_to_read(path)) {
+        Ok(found) => found.file_type().is_fifo(),
+        Err(_) => false,
+    }
 }
 
 // Whether a path is one of what a process was given open. A pipe with a name isn't opened at all.
