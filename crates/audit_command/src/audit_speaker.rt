@@ -2,6 +2,7 @@
 
 use crate::arguments::AuditTask;
 use crate::conflict_cells::{Conflict, push_names};
+use crate::foreign_cell::{foreign_at, push_foreign};
 use code_words::{OTHERS, push_name};
 use file_words::{LineSpeaker, push_other_file, say_text};
 use ledger::LiveCell;
@@ -16,6 +17,8 @@ const MOST_NAMED: u32 = 20;
 #[derive(Drop)]
 pub(crate) struct AuditSpeaker<'a> {
     rt: &'a HostRuntime,
+    /// The path of the members file.
+    members: &'a str,
     /// The paths of the cells of which something may be counted.
     cells: Vec<&'a str>,
     /// How many conflicts were said.
@@ -31,6 +34,7 @@ impl<'a> AuditSpeaker<'a> {
         }
         Some(AuditSpeaker {
             rt,
+            members: task.members,
             cells,
             conflicts: 0,
         })
@@ -42,7 +46,7 @@ impl<'a> AuditSpeaker<'a> {
         match words.as_slice() {
             ["unread", cell] => self.push_unread(&mut text, cell)?,
             ["foreign", cell] => {
-                push_code(&mut text, self.path_of(cell)?, "foreign CELL")?;
+                self.push_foreign(&mut text, cell)?;
                 self.leave_out(cell)?;
             }
             ["damaged", cell, _] => {
@@ -94,6 +98,20 @@ impl<'a> AuditSpeaker<'a> {
             }
         }
         self.leave_out(cell)
+    }
+
+    // Appends why a cell isn't counted that was made with other members. What came through a pipe
+    // is gone, and so no more is said of it.
+    fn push_foreign(&self, text: &mut String, cell: &str) -> Result<(), AllocError> {
+        let path = self.path_of(cell)?;
+        if let Some(path) = path {
+            if let Some(foreign) = foreign_at(self.rt, self.members, path)? {
+                push_name(text, path)?;
+                text.push_str(": ")?;
+                return push_foreign(text, &foreign);
+            }
+        }
+        push_code(text, path, "foreign CELL")
     }
 
     // The path of the cell that a line names.

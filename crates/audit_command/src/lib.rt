@@ -19,6 +19,7 @@ mod counts;
 mod disk_cells;
 mod evidence;
 mod finding_lines;
+mod foreign_cell;
 mod gathered;
 mod in_use_line;
 mod last_records;

@@ -92,6 +92,12 @@ fn push_line_end(text: &mut String, folder: &str) -> Result<(), AllocError> {
     if folder.is_empty() {
         return text.push_str("; its name is empty, as that of an empty line of a list");
     }
+    if folder.contains('\0') {
+        return text.push_str("; its name has zero bytes: use --from0");
+    }
+    if folder.starts_with('\u{feff}') {
+        return text.push_str("; its name begins with a byte order mark: save the list without");
+    }
     if folder.ends_with('\r') {
         return text.push_str(
             "; its name ends with a carriage return: a list has to have a line feed alone after \

@@ -22,6 +22,8 @@ pub(crate) enum Reason {
     NoRight,
     NoFolder,
     NotUtf8,
+    LongName,
+    Circle,
     Link,
     Special,
     TooDeep,
@@ -37,7 +39,10 @@ impl Reason {
             ErrorKind::NotFound => Reason::Absent,
             ErrorKind::PermissionDenied => Reason::NoRight,
             ErrorKind::NotADirectory => Reason::NoFolder,
-            ErrorKind::InvalidFilename => Reason::NotUtf8,
+            // Of a name that isn't UTF-8 the system says nothing.
+            ErrorKind::InvalidFilename if error.raw_os_error().is_none() => Reason::NotUtf8,
+            ErrorKind::InvalidFilename => Reason::LongName,
+            ErrorKind::FilesystemLoop => Reason::Circle,
             _ => Reason::Failing,
         }
     }
@@ -66,6 +71,8 @@ impl Reason {
             Reason::NoRight => "may not be read by this user",
             Reason::NoFolder => "isn't a folder",
             Reason::NotUtf8 => "has an entry whose name isn't UTF-8; rename that",
+            Reason::LongName => "can't be read: its name is too long for this disk",
+            Reason::Circle => "can't be read: its links lead in a circle, and to no file",
             Reason::Link => "is a link; put a copy of what it leads to in its place",
             Reason::Special => "is a pipe, a socket or a device, and a bag has files and folders",
             Reason::TooDeep => "has more than 32 parts",

@@ -78,7 +78,7 @@ fn matches_of<'a>(alloc: Global, words: &'a [String]) -> Result<ArgMatches<'a>, 
 fn mistake_in(alloc: Global, task: &Option<Task>) -> Result<Option<String>, AllocError> {
     match task {
         Some(Task::Send(send)) => text_of(alloc, send.mistake()),
-        Some(Task::Site(site)) => text_of(alloc, site.mistake(alloc)?),
+        Some(Task::Site(site)) => site.mistake(alloc),
         Some(Task::Members(members)) => members.mistake(alloc),
         _ => Ok(None),
     }

@@ -3,6 +3,7 @@
 use outcomes::ProgramFault;
 use std::fs;
 use std::io::IsTerminal;
+use std::os::unix::fs::FileTypeExt;
 
 /// Where standard output is.
 const OUTPUT: &str = "/proc/self/fd/1";
@@ -20,17 +21,25 @@ pub(crate) fn hinted(
             let _ = rt.eprintln("--words says why");
         }
         Ok(_) => {}
-        Err(_) => say_unwritten(rt),
+        Err(_) => say_unwritten(rt, words || rt.stderr().is_terminal()),
     }
     answer
 }
 
-// Says that a file couldn't be written to. Who reads a pipe may close it at will, so of that nothing
+// Says that a file couldn't be written to; and, where a person may read it, that standard output is
+// closed, or a device that takes nothing. Who reads a pipe may close it at will, so of that nothing
 // is said.
-fn say_unwritten(rt: &HostRuntime) {
-    if let Ok(found) = fs::metadata(rt, OUTPUT) {
-        if found.is_file() {
+fn say_unwritten(rt: &HostRuntime, is_told: bool) {
+    match fs::metadata(rt, OUTPUT) {
+        Ok(found) if found.is_file() => {
             let _ = rt.eprintln("standard output can't be written; is the disk full?");
         }
+        Ok(found) if is_told && found.file_type().is_char_device() => {
+            let _ = rt.eprintln("standard output can't be written: its device takes nothing");
+        }
+        Err(_) if is_told => {
+            let _ = rt.eprintln("standard output is closed, so nothing can be written there");
+        }
+        _ => {}
     }
 }

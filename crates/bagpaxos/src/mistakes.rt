@@ -2,6 +2,7 @@
 
 use crate::arguments::task_of;
 use crate::mistake_text::{help_text, mistake_text};
+use crate::slips::slip_text;
 use crate::usage::{Usage, usage_of};
 use clap::Error;
 use clap::error::ErrorKind;
@@ -82,6 +83,10 @@ fn say(rt: &HostRuntime, words: &[String], error: &Error) -> Result<(), AllocErr
         return Err(AllocError);
     }
     let said = format!(in rt.alloc(); "{error}")?;
+    let said = match slip_text(rt.alloc(), said.as_str(), words)? {
+        Some(slip) => slip,
+        None => said,
+    };
     let text = mistake_text(rt.alloc(), said.as_str(), usage_in(words))?;
     let _ = rt.eprint(text.as_str());
     Ok(())

@@ -3,7 +3,7 @@
 use crate::run_arguments::RunTask;
 use crate::run_on::run_on;
 use crate::schedule_fault::say_schedule_fault;
-use code_words::push_name;
+use code_words::{push_name, push_path};
 use outcomes::{ProgramFault, ReadFault, read_all, write_all, write_output};
 use run_page::page_of;
 use run_picture::picture_of;
@@ -13,6 +13,10 @@ use std::alloc::AllocError;
 use std::fs::{self, File};
 use std::io;
 use std::io::{ErrorKind, Read};
+use std::os::unix::fs::FileTypeExt;
+
+/// Where standard input is.
+const INPUT: &str = "/proc/self/fd/0";
 
 /// Runs the schedule that the task names. What it prints doesn't depend on whether it is also put
 /// into words or drawn.
@@ -29,7 +33,15 @@ pub(crate) fn run_schedule(rt: &HostRuntime, task: &RunTask<'_>) -> Result<u8, P
 
 fn run_source(rt: &HostRuntime, task: &RunTask<'_>) -> Result<u8, ProgramFault> {
     match task.file {
-        None => run_input(rt, task, &mut rt.reader()),
+        None => match run_input(rt, task, &mut rt.reader()) {
+            Err(ProgramFault::Input) => {
+                if task.words {
+                    say_unread_input(rt);
+                }
+                Err(ProgramFault::Input)
+            }
+            answer => answer,
+        },
         Some(path) => match File::open(rt, path) {
             Ok(mut file) => match run_input(rt, task, &mut file) {
                 Err(ProgramFault::Input) => {
@@ -53,11 +65,25 @@ fn run_source(rt: &HostRuntime, task: &RunTask<'_>) -> Result<u8, ProgramFault> 
     }
 }
 
+// Says why standard input can't be read.
+fn say_unread_input(rt: &HostRuntime) {
+    let _ = match fs::metadata(rt, INPUT) {
+        Ok(found) if found.is_dir() => {
+            rt.eprintln("standard input is a folder, and a schedule is a file")
+        }
+        Ok(_) => rt.eprintln("standard input can't be read to its end"),
+        Err(_) => rt.eprintln("standard input is closed: give a file, or `bagpaxos run < FILE`"),
+    };
+}
+
 // Says why the schedule can't be read.
 fn say_unread(rt: &HostRuntime, path: &str, error: &io::Error) -> Result<(), AllocError> {
     let mut name = String::new(rt.alloc());
-    push_name(&mut name, path)?;
+    push_path(&mut name, path)?;
     let _ = match error.kind() {
+        ErrorKind::NotFound if path == "-" => eprintln!(rt;
+            "- isn't there: it is the name of a file here; without one standard input is read"
+        ),
         ErrorKind::NotFound => eprintln!(rt; "{name} isn't there"),
         ErrorKind::PermissionDenied => eprintln!(rt; "{name} may not be opened by this user"),
         _ => eprintln!(rt; "{name} can't be opened: {error}"),
@@ -100,7 +126,7 @@ fn run_bytes(rt: &HostRuntime, task: &RunTask<'_>, bytes: &[u8]) -> Result<u8, P
     let status = run_on(rt.alloc(), &mut rest, &mut io::writer(rt), task.options)?;
     if status != 0 {
         if task.words {
-            say_schedule_fault(rt, bytes);
+            say_schedule_fault(rt, task.file, bytes);
         }
         return Ok(status);
     }
@@ -140,6 +166,12 @@ fn show(rt: &HostRuntime, task: &RunTask<'_>, story: &Story) -> Result<u8, Alloc
 
 fn draw(rt: &HostRuntime, task: &RunTask<'_>, story: &Story, path: &str) -> Result<u8, AllocError> {
     let picture = drawing_of(rt, task, story, path)?;
+    if is_no_file(rt, path) {
+        let mut name = String::new(rt.alloc());
+        push_name(&mut name, path)?;
+        let _ = eprintln!(rt; "error: {name} is no file; give another path");
+        return Ok(1);
+    }
     if is_of_another_kind(rt, path) {
         let mut name = String::new(rt.alloc());
         push_name(&mut name, path)?;
@@ -163,6 +195,18 @@ fn draw(rt: &HostRuntime, task: &RunTask<'_>, story: &Story, path: &str) -> Resu
             let _ = eprintln!(rt; "error: the picture can't be written to {name}: {error}");
             Ok(1)
         }
+    }
+}
+
+// Whether something is there that a picture can't replace, as a pipe, whose open would wait for its
+// reader. A device of characters, as /dev/null, takes all, or says why not; so does a folder.
+fn is_no_file(rt: &HostRuntime, path: &str) -> bool {
+    match fs::metadata(rt, path) {
+        Ok(found) => {
+            let is_device = found.file_type().is_char_device();
+            !found.is_file() && !found.is_dir() && !is_device
+        }
+        Err(_) => false,
     }
 }
 

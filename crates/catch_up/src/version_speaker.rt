@@ -3,7 +3,7 @@
 
 use crate::arguments::CatchUpTask;
 use code_words::{meaning_of_line, push_name};
-use file_words::{LineSpeaker, push_file_words, say_text};
+use file_words::{LineSpeaker, first_piped, push_file_words, push_gone, say_text};
 use known_bags::{DiskSources, push_source};
 use std::alloc::AllocError;
 use std::fs;
@@ -67,18 +67,25 @@ impl<'a> VersionSpeaker<'a> {
         Ok(())
     }
 
-    // Appends what a line says of the first file that can't be used, if one can't.
+    // Appends what a line says of the first file that can't be used, if one can't. What came
+    // through a pipe isn't looked at again: it is gone.
     fn push_file(&self, text: &mut String, line: &str) -> Result<(), AllocError> {
         if meaning_of_line(self.rt.alloc(), line)?.is_none() {
             return Ok(());
         }
         for path in self.files {
+            if first_piped(self.rt, &[*path]).is_some() {
+                continue;
+            }
             let bags = &mut Vec::new(self.rt.alloc());
             if push_source(self.rt.alloc(), &DiskSources { rt: self.rt }, bags, path).is_err() {
                 return push_file_words(self.rt, text, path, line);
             }
         }
-        Ok(())
+        match first_piped(self.rt, self.files) {
+            Some(path) => push_gone(text, path),
+            None => Ok(()),
+        }
     }
 
     fn push_other(&self, text: &mut String, object: &str, version: &str) -> Result<(), AllocError> {

@@ -11,8 +11,10 @@ pub struct Asked<'a> {
     pub site: u8,
     /// The path of the cell, of a site that serves.
     pub cell: Option<&'a str>,
-    /// Whether an address is named at which the site listens.
-    pub listens: bool,
+    /// Whether that cell has to be there.
+    pub existing: bool,
+    /// The address at which the site listens, if one is named.
+    pub listens: Option<&'a str>,
     /// The folder below which bags are read, if one is named.
     pub bags: Option<&'a str>,
     /// The folder to deposit, if one is.

@@ -45,8 +45,9 @@ pub static STOPPED: [Meaning; 3] = [
     },
     Meaning {
         code: "stopped 2",
-        words: "the cell couldn't be written or synced",
-        advice: "look at the disk and its room, and start the site again",
+        words: "the cell couldn't be written or synced, or something else has changed it",
+        advice: "look at the disk and its room, and at the cell with `bagpaxos journal`, before \
+            the site is started again",
     },
     Meaning {
         code: "stopped 3",

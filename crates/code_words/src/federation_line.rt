@@ -5,7 +5,8 @@ use crate::schedule_command::{push_comment_words, push_first_fault};
 use crate::word_text::push_found;
 use std::alloc::{AllocError, Global};
 
-const MARK: &[u8] = b"\xef\xbb\xbf";
+/// A byte order mark.
+pub(crate) const MARK: &[u8] = b"\xef\xbb\xbf";
 
 /// Appends what is wrong with the first command, of these words.
 pub(crate) fn push_first_words(
@@ -26,8 +27,8 @@ pub(crate) fn push_first_words(
     }
 }
 
-// Appends that the word begins with a byte order mark, where it does.
-fn push_mark_words(text: &mut String, word: &[u8]) -> Result<(), AllocError> {
+/// Appends that the word begins with a byte order mark, where it does.
+pub(crate) fn push_mark_words(text: &mut String, word: &[u8]) -> Result<(), AllocError> {
     if word.starts_with(MARK) {
         return text.push_str("; it begins with a byte order mark: save it without");
     }

@@ -1,14 +1,20 @@
 //! What a line of `site` or `send` says.
 
 use crate::asked::Asked;
-use crate::cell_reason::{push_cell_reason, push_other_file};
-use crate::file_reason::push_file_reason;
+use crate::cell_reason::{other_file, push_cell_reason};
+use crate::file_reason::{is_piped, push_file_reason};
+use crate::key_reason::key_reason;
 use crate::meaning::Meaning;
 use crate::members_reason::{place_of, push_line_reason, push_stranger};
 use crate::name::push_name;
 use crate::of_line::meaning_of_line;
 use members_file::Place;
 use std::alloc::AllocError;
+
+/// What is said of an address at which no socket can be had.
+const NOT_HAD: &str =
+    " can't be had: another process has it, this machine hasn't that address, or the system \
+    refuses it; `ss -lunp` and `ip address` say which";
 
 /// Appends what a line says, if it has a code.
 pub(crate) fn push_reason(
@@ -44,13 +50,35 @@ fn push_meaning(
         return Ok(());
     };
     push_subject(text, asked, line, meaning)?;
-    meaning.push(text)?;
-    if line.starts_with("open ") {
-        if let Some(cell) = asked.cell {
-            push_other_file(rt, text, cell)?;
+    match reason_for(rt, asked, line)? {
+        Some(reason) => {
+            text.push_str(meaning.words)?;
+            text.push_str(reason)
+        }
+        None => {
+            meaning.push(text)?;
+            push_hint(text, asked, meaning)
         }
     }
-    push_hint(text, asked, meaning)
+}
+
+// What is said in place of what to do, where more is known of the file: what is no cell isn't the
+// cell of a site that is lost.
+fn reason_for(
+    rt: &HostRuntime,
+    asked: &Asked<'_>,
+    line: &str,
+) -> Result<Option<&'static str>, AllocError> {
+    if line.starts_with("open ") {
+        return Ok(match asked.cell {
+            Some(cell) => other_file(rt, cell),
+            None => None,
+        });
+    }
+    match (line.strip_prefix("key line "), asked.key) {
+        (Some(number), Some(key)) => key_reason(rt, key, number.parse::<usize>().unwrap_or(1)),
+        _ => Ok(None),
+    }
 }
 
 // Appends how to learn where a bag is at fault.
@@ -119,6 +147,10 @@ fn push_folder(text: &mut String, asked: &Asked<'_>, path: &str) -> Result<(), A
 
 fn push_key(rt: &HostRuntime, text: &mut String, asked: &Asked<'_>) -> Result<(), AllocError> {
     match asked.key {
+        Some(key) if is_piped(rt, key) => {
+            push_name(text, key)?;
+            text.push_str(" isn't a file, as a key file is")
+        }
         Some(key) => push_file_reason(rt, text, key),
         None => Ok(()),
     }
@@ -190,27 +222,37 @@ fn push_socket(rt: &HostRuntime, text: &mut String, asked: &Asked<'_>) -> Result
 }
 
 // Appends why a site may get no socket at its place.
-fn push_refused_place(text: &mut String, place: &Place, listens: bool) -> Result<(), AllocError> {
-    match place {
-        Place::Port(_) if listens => text.push_str(
+fn push_refused_place(
+    text: &mut String,
+    place: &Place,
+    listens: Option<&str>,
+) -> Result<(), AllocError> {
+    match (place, listens) {
+        (Place::Port(_), Some(_)) => text.push_str(
             "--listen is for a members file with addresses, and this one has ports: leave it out",
         ),
-        Place::Port(port) => write!(
+        (Place::Port(port), None) => write!(
             text,
             "port {port} can't be had: another process has it, or the system refuses it; \
             `ss -lunp` says which"
         ),
-        Place::Address(address) => write!(
-            text,
-            "{address} can't be had: another process has it, this machine hasn't that address, or \
-            the system refuses it; `ss -lunp` and `ip address` say which"
-        ),
+        (Place::Address(_), Some(listens)) => push_refused_address(text, listens),
+        (Place::Address(address), None) => {
+            write!(text, "{address}")?;
+            text.push_str(NOT_HAD)
+        }
     }
+}
+
+// Appends why a site may get no socket at the address that --listen names.
+fn push_refused_address(text: &mut String, listens: &str) -> Result<(), AllocError> {
+    push_name(text, listens)?;
+    text.push_str(NOT_HAD)
 }
 
 fn push_cell(rt: &HostRuntime, text: &mut String, asked: &Asked<'_>) -> Result<(), AllocError> {
     match asked.cell {
-        Some(cell) => push_cell_reason(rt, text, cell),
+        Some(cell) => push_cell_reason(rt, text, cell, asked.existing),
         None => Ok(()),
     }
 }

@@ -1,5 +1,6 @@
 //! What is wrong with a line of a members file.
 
+use crate::federation_line::push_mark_words;
 use crate::kind::Kind;
 use crate::place_pair::push_pair_words;
 use crate::place_word::push_place_words;
@@ -9,6 +10,7 @@ use crate::text_lines::line_at;
 use crate::word_text::push_found;
 use members_file::Place;
 use std::alloc::{AllocError, Global};
+use std::str;
 use words::{parse_number, split_words};
 
 /// Appends what is wrong with the line of this number, counted from 1, the first at fault in a text
@@ -35,6 +37,9 @@ fn push_federation_words(text: &mut String, words: &[&[u8]]) -> Result<(), Alloc
         "the first line has to be federation F, F being 0 to 18446744073709551615; found ",
     )?;
     push_found(text, words)?;
+    if let Some(first) = words.first() {
+        push_mark_words(text, first)?;
+    }
     push_comment(text, words)
 }
 
@@ -74,6 +79,7 @@ fn push_argument_words(
     }
     match arguments {
         [_] => push_missing(text, Kind::Port),
+        [site, place] if is_with_weight(alloc, place)? => push_weight_words(text, site, place),
         [_, place, ..] if Place::parse(alloc, place)?.is_none() => push_place_words(text, place),
         [_, _, weight, ..] if !Kind::Weight.takes(alloc, weight)? => {
             push_wrong(text, Kind::Weight, weight)?;
@@ -85,6 +91,35 @@ fn push_argument_words(
             push_comment(text, left)
         }
         [site, place, ..] => push_order_words(alloc, text, file, number, site, place),
+        _ => Ok(()),
+    }
+}
+
+// The parts of a word that is a place, a colon and a weight, as `members --new` takes it.
+fn with_weight(word: &[u8]) -> Option<(&str, &str)> {
+    str::from_utf8(word).ok()?.rsplit_once(':')
+}
+
+fn is_with_weight(alloc: Global, word: &[u8]) -> Result<bool, AllocError> {
+    if Place::parse(alloc, word)?.is_some() {
+        return Ok(false);
+    }
+    match with_weight(word) {
+        Some((place, weight)) => Ok(
+            Place::parse(alloc, place.as_bytes())?.is_some()
+                && Kind::Weight.takes(alloc, weight.as_bytes())?,
+        ),
+        None => Ok(false),
+    }
+}
+
+// Appends how a site's weight is written in a file.
+fn push_weight_words(text: &mut String, site: &[u8], word: &[u8]) -> Result<(), AllocError> {
+    match (str::from_utf8(site), with_weight(word)) {
+        (Ok(site), Some((place, weight))) => write!(
+            text,
+            "write the weight after a blank: site {site} {place} {weight}"
+        ),
         _ => Ok(()),
     }
 }

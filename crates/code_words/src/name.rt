@@ -119,6 +119,15 @@ fn push_character(text: &mut String, character: char) -> Result<(), AllocError>
     }
 }
 
+/// Appends the path that an argument names; of an empty one that it is empty.
+pub fn push_path(text: &mut String, path: &str) -> Result<(), AllocError> {
+    if path.is_empty() {
+        text.push_str("an empty name")
+    } else {
+        push_name(text, path)
+    }
+}
+
 /// Appends a name between quotes.
 #[tactic(auto, using(std::proofs::Common::append_assoc))]
 pub fn push_quoted(text: &mut String, name: &str) -> Result<(), AllocError>

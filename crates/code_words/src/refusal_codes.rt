@@ -24,8 +24,9 @@ pub static REFUSED: [Meaning; 10] = [
     },
     Meaning {
         code: "refused S 13",
-        words: "the site's cell couldn't be written or synced",
-        advice: "look at its disk, and start the site again",
+        words: "the site's cell couldn't be written or synced, or something else has changed it",
+        advice: "look at its disk, and at the cell with `bagpaxos journal`, before the site is \
+            started again",
     },
     Meaning {
         code: "refused S 14",

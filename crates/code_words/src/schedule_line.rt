@@ -17,6 +17,9 @@ pub fn push_schedule_words(
     write!(text, "line {number}: ")?;
     let line = line_at(schedule, number);
     let words = split_words(alloc, line)?;
+    if is_members_file(alloc, schedule, number, words.as_slice())? {
+        return text.push_str("this is a members file; a schedule begins with federation F N");
+    }
     match words.as_slice() {
         [name, arguments @ ..] if has_command_before(alloc, schedule, number)? => {
             push_command_words(alloc, text, name, arguments)?;
@@ -24,6 +27,24 @@ pub fn push_schedule_words(
         words => push_first_words(alloc, text, words)?,
     }
     push_tab_words(text, line)
+}
+
+// Whether a members file begins at the line of this number and these words: it names no number of
+// sites, and the next line has the first of them.
+fn is_members_file(
+    alloc: Global,
+    text: &[u8],
+    number: usize,
+    words: &[&[u8]],
+) -> Result<bool, AllocError> {
+    let [name, _] = words else {
+        return Ok(false);
+    };
+    if *name != b"federation".as_slice() || has_command_before(alloc, text, number)? {
+        return Ok(false);
+    }
+    let next = split_words(alloc, line_at(text, number.saturating_add(1)))?;
+    Ok(next.first() == Some(&b"site".as_slice()))
 }
 
 /// Appends that tabs separate no words, where the line has one.

@@ -10,7 +10,7 @@ use crate::send_all::send_all_on;
 use catch_up::{ClockTimer, SiteToAsk, Sites, Target, sites_for};
 use code_words::{Asked, SpokenOutput};
 use counted_writes::CountedWriter;
-use file_words::SpokenLines;
+use file_words::{SpokenLines, say_no_line};
 use outcomes::{ProgramFault, ReadFault, read_all, write_output};
 use site_commands::{Stop, write_stop};
 use std::fs::File;
@@ -21,7 +21,13 @@ use std::io::{self, ErrorKind, IsTerminal, Printer, Write};
 /// terminal.
 pub fn send_deposits(rt: &HostRuntime, task: &DepositsTask<'_>) -> Result<u8, ProgramFault> {
     match list_bytes(rt, task.file) {
-        Ok(bytes) => send_list(rt, task, bytes.as_slice()),
+        Ok(bytes) => {
+            let answer = send_list(rt, task, bytes.as_slice());
+            if task.words && bytes.is_empty() {
+                say_no_line(rt, task.file);
+            }
+            answer
+        }
         Err(ReadFault::Input) => {
             write_output(&mut output_of(rt, task, &[]), 1, "deposits unread\n")
         }
@@ -88,7 +94,8 @@ fn refuse(rt: &HostRuntime, task: &DepositsTask<'_>, stop: Stop) -> Result<u8, P
         key: task.key,
         site: task.to.number(),
         cell: None,
-        listens: false,
+        existing: false,
+        listens: None,
         bags: None,
         path: None,
         wait: task.wait,

@@ -122,7 +122,9 @@ impl<'a> DepositSpeaker<'a> {
         write!(
             text,
             "site {site} didn't say in {wait} ms that it has registered the bag: it is down, or \
-            takes longer to read the bag; send the same list again, and give --wait more"
+            takes longer to read the bag; send the same list again, and give --wait more; or its \
+            members file is of another federation, or it has another key, or only one of the two \
+            has a key: `bagpaxos members` and `bagpaxos members --key` say which they are"
         )
     }
 

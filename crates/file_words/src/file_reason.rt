@@ -1,6 +1,7 @@
 //! Why a file can't be read.
 
-use code_words::push_name;
+use crate::piped::{is_piped, path_to_read};
+use code_words::push_path;
 use std::alloc::AllocError;
 use std::fs::{self, File};
 use std::io::{self, ErrorKind, Read};
@@ -11,6 +12,12 @@ const SYNCED: &str = ".synced";
 /// What a cell begins with.
 const MAGIC: &[u8] = b"BPJ";
 
+/// What is said of the file beside a cell.
+const LENGTHS: &str = "; it is what a site leaves beside its cell: give the cell";
+
+/// What is said of bytes that can't be read a second time.
+pub(crate) const GONE: &str = "; it came through a pipe, and is gone: give a file to see the line";
+
 /// Appends a path, and why the cell or the list there can't be read.
 pub(crate) fn push_unread(
     rt: &HostRuntime,
@@ -20,7 +27,7 @@ pub(crate) fn push_unread(
     if path == "-" {
         return text.push_str("standard input is neither a file nor a pipe that can be read");
     }
-    push_name(text, path)?;
+    push_path(text, path)?;
     match fs::metadata(rt, path) {
         Ok(found) if found.is_dir() => text.push_str(" is a folder, and no file"),
         Ok(found) if !found.is_file() => text.push_str(" isn't a file"),
@@ -49,14 +56,26 @@ pub fn push_other_file(rt: &HostRuntime, text: &mut String, path: &str) -> Resul
     }
 }
 
+/// What is said of a path of which no line can be a list's, after a semicolon, if it is one.
+pub(crate) fn no_list(rt: &HostRuntime, path: &str) -> Option<&'static str> {
+    if path.ends_with(SYNCED) {
+        return Some(LENGTHS);
+    }
+    if is_piped(rt, path) { Some(GONE) } else { None }
+}
+
 /// Why the file of this path isn't a cell, after a semicolon: it is empty, or doesn't begin as a
-/// cell does; none if it isn't there, or may be one.
+/// cell does; none if it isn't there, or may be one. A pipe isn't opened: it is empty by now, or
+/// waits for its writer.
 pub(crate) fn other_file(rt: &HostRuntime, path: &str) -> Option<&'static str> {
     if path.ends_with(SYNCED) {
-        return Some("; it is what a site leaves beside its cell: give the cell");
+        return Some(LENGTHS);
+    }
+    if is_piped(rt, path) {
+        return Some(GONE);
     }
     let mut front = [0u8; 3];
-    let Ok(mut file) = File::open(rt, path) else {
+    let Ok(mut file) = File::open(rt, path_to_read(path)) else {
         return None;
     };
     match file.read(&mut front) {

@@ -1,7 +1,9 @@
 //! What is said of a file that is read.
 
-use crate::file_reason::{other_file, push_unread};
+use crate::file_reason::{no_list, other_file, push_unread};
 use crate::line_speaker::{LineSpeaker, say_text};
+use crate::other_list::other_list;
+use crate::piped::push_source_name;
 use code_words::{meaning_of_line, push_name};
 use std::alloc::AllocError;
 use std::fs;
@@ -51,13 +53,37 @@ pub fn push_file_words(
     };
     push_name(text, path)?;
     text.push_str(": ")?;
-    if line == "damaged 0" {
-        if let Some(reason) = other_file(rt, path) {
+    match reason_for(rt, path, line) {
+        Some(reason) => {
             text.push_str(meaning.words)?;
-            return text.push_str(reason);
+            text.push_str(reason)
         }
+        None => meaning.push(text),
     }
-    meaning.push(text)
+}
+
+// What is said in place of the advice, where more is known of the file.
+fn reason_for(rt: &HostRuntime, path: &str, line: &str) -> Option<&'static str> {
+    if line == "damaged 0" {
+        return other_file(rt, path);
+    }
+    let number = line.strip_prefix("ledger line ")?;
+    match no_list(rt, path) {
+        Some(reason) => Some(reason),
+        None => other_list(rt, path, number.parse::<usize>().ok()?),
+    }
+}
+
+/// Says that the list of this path has no line.
+pub fn say_no_line(rt: &HostRuntime, path: &str) {
+    say_text(rt, no_line_words(rt, path));
+}
+
+fn no_line_words(rt: &HostRuntime, path: &str) -> Result<String, AllocError> {
+    let mut text = String::new(rt.alloc());
+    push_source_name(&mut text, path)?;
+    text.push_str(" is empty: no line in it")?;
+    Ok(text)
 }
 
 /// Says that a file of which nothing was printed is empty, if it is, and words are asked for.

@@ -91,7 +91,8 @@ and if FILE can't be used, the only line on standard output says why: `open 4`,
 `damaged OFFSET`, `ledger line N`. With --versions standard output has all of
 these lines, after those of the folders. With --deposits standard output has
 `OBJ V FOLDER` in place of the first of them, for `send --deposits`, and
-standard error all others, those of the folders too.
+standard error all others, those of the folders too. --registered doesn't go
+with --complete, --named, --json, --from or --from0.
 
 The exit status is 0 if each folder is a valid bag (with --complete, a complete
 one), and with --registered each is registered and none is missing; 1 for all

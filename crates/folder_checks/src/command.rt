@@ -13,7 +13,7 @@ use crate::tally::Tally;
 use bag_folders::Folders;
 use bag_words::{SpokenFolders, Wanted};
 use counted_writes::{CountedWrite, CountedWriter, write_output};
-use file_words::push_file_words;
+use file_words::{push_file_words, say_no_line};
 use outcomes::{ProgramFault, ReadFault};
 use std::alloc::{AllocError, Global};
 use std::io::{IsTerminal, Stderr};
@@ -52,7 +52,7 @@ fn check_listed(
         Ok(names) => {
             let answer = check_names(rt, task, names.as_slice(), &mut output);
             if task.words {
-                say_names(rt, names.as_slice());
+                say_names(rt, list.path, names.as_slice());
             }
             answer
         }
@@ -61,9 +61,9 @@ fn check_listed(
 }
 
 // Says which names of a list aren't UTF-8, and so are those of no folder; or that there are none.
-fn say_names(rt: &HostRuntime, names: &[&[u8]]) {
+fn say_names(rt: &HostRuntime, list: &str, names: &[&[u8]]) {
     if names.is_empty() {
-        let _ = rt.eprintln("the list names no folder");
+        say_no_line(rt, list);
     }
     for name in names {
         if str::from_utf8(name).is_err() {

@@ -29,6 +29,19 @@ pub(crate) fn expect_apart(
     }
 }
 
+/// What standard output and standard error are.
+pub(crate) const OUTPUT: &str = "/proc/self/fd/1";
+
+pub(crate) const ERRORS: &str = "/proc/self/fd/2";
+
+/// Says on standard error that standard output is the cell of this path.
+pub(crate) fn say_output(rt: &HostRuntime, cell: &str) {
+    let mut name = String::new(rt.alloc());
+    if push_name(&mut name, cell).is_ok() {
+        let _ = eprintln!(rt; "bagpaxos: standard output is the cell {name}: send it elsewhere");
+    }
+}
+
 // Where there is no memory for the words, or no standard error, nobody is told.
 fn say(rt: &HostRuntime, one: NamedFile<'_>, other: NamedFile<'_>) {
     if let Ok(text) = same_file_text(rt, one, other) {

@@ -17,6 +17,7 @@ mod file_members;
 mod first_start;
 mod folders_below;
 mod handing;
+mod held;
 mod key_files;
 mod member_words;
 mod members_arguments;

@@ -2,10 +2,11 @@
 
 ghost use Rattle.std.specs.Prelude.{◌≡◌, IfOk};
 
-use crate::apart_files::{NamedFile, expect_apart};
+use crate::apart_files::{ERRORS, NamedFile, OUTPUT, expect_apart, say_output};
 use crate::cell_opening::cell_of;
 use crate::file_members::{expect_listed, members_at};
 use crate::folders_below::FoldersBelow;
+use crate::held::Held;
 use crate::key_files::site_keys_for;
 use crate::noted_ending::note_ending;
 use crate::own_address::{addresses_with, origins_of, own_address};
@@ -24,12 +25,57 @@ use records::Owner;
 use site_log::{LoggedFolders, LoggedOutput, LoggedPort, SiteLog, Watch, WatchedPort};
 use std::alloc::AllocError;
 use std::fs;
-use std::io::{ErrorKind, Write};
+use std::io::{self, ErrorKind, Write};
+use system_files::is_same_file;
 use udp_site::{Port, UdpPort};
 
 /// Serves as the arguments say. The lines are written to standard output. Where a log is asked for,
 /// it is opened before all else, so that it has what ends the site.
 pub fn serve_site<'a>(rt: &'a HostRuntime, task: &SiteTask<'a>) -> Result<u8, ProgramFault> {
+    let _held = Held::places(rt);
+    match refuses_outputs(rt, task) {
+        Ok(false) => serve(rt, task),
+        Ok(true) => Ok(1),
+        Err(AllocError) => write_stop(rt.alloc(), &mut output_of(rt, task, None), Stop::Memory),
+    }
+}
+
+// Says of a file that is called `-` that it is one, and no stream.
+fn say_hyphens(rt: &HostRuntime, task: &SiteTask<'_>) {
+    if task.log == Some("-") {
+        let _ = rt.eprintln("--log -: it is the name of a file here, and not standard output");
+    }
+    if task.cell == "-" {
+        let _ = rt.eprintln("--cell -: it is the name of a file here, and not standard input");
+    }
+}
+
+// Whether an output is the cell, into which each line would go. The other output says so; where
+// both are the cell, nobody is told.
+fn refuses_outputs(rt: &HostRuntime, task: &SiteTask<'_>) -> Result<bool, AllocError> {
+    let output = is_cell(rt, OUTPUT, task)?;
+    let errors = is_cell(rt, ERRORS, task)?;
+    if output && !errors {
+        say_output(rt, task.cell);
+    }
+    if errors && !output && !task.quiet {
+        let _ = write_stop(rt.alloc(), &mut io::writer(rt), Stop::SameFile);
+    }
+    Ok(output || errors)
+}
+
+// Whether this output is the file of the cell.
+fn is_cell(rt: &HostRuntime, output: &str, task: &SiteTask<'_>) -> Result<bool, AllocError> {
+    match fs::metadata(rt, output) {
+        Ok(found) if found.is_file() => is_same_file(rt, output, task.cell),
+        _ => Ok(false),
+    }
+}
+
+fn serve<'a>(rt: &'a HostRuntime, task: &SiteTask<'a>) -> Result<u8, ProgramFault> {
+    if task.words {
+        say_hyphens(rt, task);
+    }
     let Some(path) = task.log else {
         return equip_and_serve(rt, task, None, &mut output_of(rt, task, None));
     };
@@ -124,7 +170,8 @@ fn output_of<'a, 'l, 's>(
         key: task.key,
         site: task.number.number(),
         cell: Some(task.cell),
-        listens: task.listen.is_some(),
+        existing: task.existing,
+        listens: task.listen,
         bags: task.bags,
         path: None,
         wait: task.waits.first,

@@ -2,6 +2,7 @@
 
 use addresses::Address;
 use clap::{Arg, ArgAction, ArgMatches, Command, value_parser};
+use code_words::{push_place_words, push_quoted};
 use fed_types::{GREATEST_SITE, SiteNo};
 use std::alloc::{AllocError, Global};
 use udp_site::Waits;
@@ -73,8 +74,9 @@ says why in words:
   TIME - why: the cell is damaged; keep the file; the site is lost, and ..
 With --key the first line ends with `, keys NAME NAME`, the names of the two
 keys that it sends with.
-If the log can't be written, or isn't a file, standard error says so once, and
-the site goes on.
+If the log can't be written, or isn't a file, or is a file that doesn't begin as
+a log does, standard error says so once, and the site goes on; nothing is
+written into that file.
 
 The log has at most 60 lines a minute of one address and one first word; all
 lines `known` are in it. Those after them are counted, and once the minute is
@@ -104,7 +106,7 @@ The exit status is 0 after the last turn; 1 if a last line says why it stopped:
                     file's list
   not a member      the members file has no such site
   same file         two of --cell, --members and --log name one file, as
-                    standard error says
+                    standard error says; or standard error is the cell
   key unread        the key file can't be read
   key open to others
                     others than its owner have rights to the key file
@@ -121,12 +123,16 @@ The exit status is 0 after the last turn; 1 if a last line says why it stopped:
   stopped N         a receive failed (1), the cell failed (2), or out of memory
                     (3)
   memory            out of memory
-or if standard output can't be written; and 2 for a mistake in the arguments.
+or if standard output can't be written, or is the cell; and 2 for a mistake in
+the arguments.
 
 Example:
   bagpaxos site --members members --number 1 --cell cell.1 --forever --wait 100";
 
-/// What is no address for `--listen`.
+/// What is amiss with the waits.
+const TOO_SHORT: &str = "--wait-most is less than --wait";
+
+/// What `--listen` takes.
 const NO_ADDRESS: &str =
     "--listen is an address and a port, as 192.0.2.1:42001 or [2001:db8::1]:42001";
 
@@ -175,17 +181,32 @@ pub enum Turns {
 
 impl SiteTask<'_> {
     /// What is amiss in the arguments beyond what each by itself may be, if anything is.
-    pub fn mistake(&self, alloc: Global) -> Result<Option<&'static str>, AllocError> {
+    pub fn mistake(&self, alloc: Global) -> Result<Option<String>, AllocError> {
         if self.waits.most < self.waits.first {
-            return Ok(Some("--wait-most is less than --wait"));
+            return Ok(Some(String::from_str(alloc, TOO_SHORT)?));
         }
-        if let Some(listen) = self.listen {
-            if Address::parse(alloc, listen.as_bytes())?.is_none() {
-                return Ok(Some(NO_ADDRESS));
-            }
+        match self.listen {
+            Some(listen) => listen_fault(alloc, listen),
+            None => Ok(None),
         }
-        Ok(None)
     }
+}
+
+// Why a site can't listen at this, if it is no address and a port.
+fn listen_fault(alloc: Global, listen: &str) -> Result<Option<String>, AllocError> {
+    if Address::parse(alloc, listen.as_bytes())?.is_some() {
+        return Ok(None);
+    }
+    let mut text = String::from_str(alloc, "--listen ")?;
+    if listen.contains(':') || listen.contains('.') {
+        push_place_words(&mut text, listen.as_bytes())?;
+    } else {
+        push_quoted(&mut text, listen)?;
+        text.push_str(" is no address and a port")?;
+    }
+    text.push_str("; ")?;
+    text.push_str(NO_ADDRESS)?;
+    Ok(Some(text))
 }
 
 /// What these arguments of the command ask for.

@@ -3,8 +3,14 @@
 use code_words::push_name;
 use std::alloc::Global;
 use std::fs::{File, OpenOptions};
-use std::io::{self, ErrorKind, Write};
-use system_files::{expect_room, expect_same, regular_file_at};
+use std::io::{self, ErrorKind, Read, Write};
+use system_files::{FileId, expect_room, expect_same, regular_file_at};
+
+/// How a time of this century begins, each `N` being a digit: a line of a log begins so.
+const TIME: &[u8] = b"20NN-NN-NNT";
+
+/// How a line begins whose time wasn't known, of a site that speaks by itself.
+const NO_TIME: &[u8] = b"- - ";
 
 /// A file to which lines are appended, as long as that succeeds.
 #[derive(Drop)]
@@ -37,12 +43,32 @@ impl LogFile {
     }
 }
 
-// The file of this path, which is a regular one: a pipe's open would wait for its reader.
+// The file of this path, which is a regular one: a pipe's open would wait for its reader. It is new
+// or a log: lines that are appended to a cell or a key file would destroy it.
 fn appending(rt: &HostRuntime, path: &str) -> io::Result<File> {
     let seen = regular_file_at(rt, path)?;
+    if seen.is_some() && !is_log(rt, path, seen)? {
+        return Err(ErrorKind::InvalidData.into());
+    }
     let file = OpenOptions::new().append(true).create(true).open(rt, path)?;
     expect_same(seen, &file)?;
     Ok(file)
+}
+
+// Whether the file of this path, which was seen there, is empty or begins as a log does.
+fn is_log(rt: &HostRuntime, path: &str, seen: Option<FileId>) -> io::Result<bool> {
+    let mut file = File::open(rt, path)?;
+    expect_same(seen, &file)?;
+    let mut front = [0u8; 11];
+    let count = file.read(&mut front)?;
+    Ok(begins_line(&front[..count]))
+}
+
+// Whether these bytes, of which a full disk may have kept a few alone, are how a line begins.
+fn begins_line(front: &[u8]) -> bool {
+    let has_time = front.iter().zip(TIME).all(|(byte, form)| byte == form
+        || (*form == b'N' && byte.is_ascii_digit()));
+    has_time || front.starts_with(NO_TIME)
 }
 
 fn write_line(file: &mut File, line: &str) -> io::Result<()> {
@@ -63,6 +89,10 @@ fn say_unopened(rt: &HostRuntime, path: &str, error: &io::Error) {
     let _ = match error.kind() {
         ErrorKind::InvalidInput => eprintln!(rt;
             "bagpaxos: the log can't be written, and the site goes on: {name} isn't a file"
+        ),
+        ErrorKind::InvalidData => eprintln!(rt;
+            "bagpaxos: the log can't be written, and the site goes on: {name} is there and is \
+            no log; give another path"
         ),
         _ => eprintln!(rt;
             "bagpaxos: the log can't be written, and the site goes on: {name}: {error}"

@@ -28,6 +28,7 @@ lasts.
 
 Each FILE is a cell, which may be in use and is never changed, or a list that
 `ledger` printed; a version that one of them knows counts as known elsewhere.
+With --watch each is read again each time, so none may come through a pipe.
 
 With --key what is sent has a tag, as with bagpaxos send. With --json each line
 is a line of JSON: an object whose member `line` says what kind of line it is,

@@ -6,7 +6,7 @@ use crate::sites::{Federation, federation_at};
 use crate::standing_speaker::StandingSpeaker;
 use code_words::{Asked, SpokenOutput};
 use counted_writes::{CountedWriter, write_output};
-use file_words::SpokenLines;
+use file_words::{SpokenLines, first_piped};
 use json_lines::JsonLines;
 use known_bags::write_fault;
 use outcomes::ProgramFault;
@@ -18,6 +18,9 @@ use std::time::Duration;
 
 /// The line where a cell is of another federation.
 const FOREIGN: &str = "open 1\n";
+
+/// The line where a file can't be read, or not as often as it has to be.
+const UNREAD: &str = "open 4\n";
 
 /// How a report ended.
 #[derive(Clone, Copy, Debug)]
@@ -54,6 +57,10 @@ fn show_once(rt: &HostRuntime, task: &StatusTask<'_>) -> Result<Ended, ProgramFa
     let speaker = StandingSpeaker::if_asked(rt, task);
     let output = JsonLines::new(rt.alloc(), task.json, io::writer(rt));
     let output = &mut CountedWriter::new(SpokenLines::new(rt.alloc(), speaker, output));
+    // A pipe is empty in the second round, and all sites would be well.
+    if task.watch.is_some() && first_piped(rt, &task.files).is_some() {
+        return Ok(Ended::Refused(write_output(output, 1, UNREAD)?));
+    }
     let known = match known_by(rt, &task.files) {
         Ok(known) => known,
         Err(fault) => return Ok(Ended::Refused(write_fault(rt.alloc(), output, fault)?)),
@@ -90,7 +97,8 @@ fn refuse(rt: &HostRuntime, task: &StatusTask<'_>, stop: Stop) -> Result<u8, Pro
         key: task.key,
         site: 1,
         cell: None,
-        listens: false,
+        existing: false,
+        listens: None,
         bags: None,
         path: None,
         wait: task.wait,

@@ -3,7 +3,9 @@
 use crate::arguments::StatusTask;
 use crate::files::push_file;
 use code_words::meaning_of_line;
-use file_words::{LineSpeaker, push_file_words, say_text};
+use file_words::{
+    LineSpeaker, first_piped, push_file_words, push_gone, push_source_name, say_text,
+};
 use site_commands::members_at;
 use std::alloc::AllocError;
 
@@ -17,6 +19,8 @@ pub(crate) struct StandingSpeaker<'a> {
     files: &'a [&'a str],
     /// How many milliseconds an answer may take.
     wait: u32,
+    /// Whether they are asked again and again.
+    watches: bool,
 }
 
 impl<'a> StandingSpeaker<'a> {
@@ -33,6 +37,7 @@ impl<'a> StandingSpeaker<'a> {
             members: task.members,
             files: task.files.as_slice(),
             wait: task.wait,
+            watches: task.watch.is_some(),
         })
     }
 
@@ -62,6 +67,7 @@ impl<'a> StandingSpeaker<'a> {
             ["federation", ..] => {}
             ["memory"] => self.push_code(&mut text, line)?,
             ["open", "1"] => self.push_foreign(&mut text, line)?,
+            ["open", "4"] => self.push_unread(&mut text, line)?,
             _ => self.push_file(&mut text, line)?,
         }
         Ok(text)
@@ -110,18 +116,38 @@ impl<'a> StandingSpeaker<'a> {
         Ok(())
     }
 
-    // Appends what a line says of the first file that can't be used, if one can't.
+    // Appends which file can't be read, or can't be read each time.
+    fn push_unread(&self, text: &mut String, line: &str) -> Result<(), AllocError> {
+        if self.watches {
+            if let Some(path) = first_piped(self.rt, self.files) {
+                push_source_name(text, path)?;
+                return text.push_str(
+                    " comes through a pipe, and --watch reads it each time: give a file",
+                );
+            }
+        }
+        self.push_file(text, line)
+    }
+
+    // Appends what a line says of the first file that can't be used, if one can't. What came
+    // through a pipe isn't looked at again: it is gone.
     fn push_file(&self, text: &mut String, line: &str) -> Result<(), AllocError> {
         if meaning_of_line(self.rt.alloc(), line)?.is_none() {
             return Ok(());
         }
         for path in self.files {
+            if first_piped(self.rt, &[*path]).is_some() {
+                continue;
+            }
             let bags = &mut Vec::new(self.rt.alloc());
             if push_file(self.rt, bags, path).is_err() {
                 return push_file_words(self.rt, text, path, line);
             }
         }
-        Ok(())
+        match first_piped(self.rt, self.files) {
+            Some(path) => push_gone(text, path),
+            None => Ok(()),
+        }
     }
 
     // Appends which cell is of another federation than the members file.
@@ -131,6 +157,9 @@ impl<'a> StandingSpeaker<'a> {
         };
         let number = members.members().federation();
         for path in self.files {
+            if first_piped(self.rt, &[*path]).is_some() {
+                continue;
+            }
             let bags = &mut Vec::new(self.rt.alloc());
             match push_file(self.rt, bags, path) {
                 Ok(Some(federation)) if federation != number => {
