@@ -56,6 +56,10 @@ impl<'a> VersionSpeaker<'a> {
     fn push_none(&self, text: &mut String) -> Result<(), AllocError> {
         text.push_str("no file knows a bag, so nobody was asked")?;
         for path in self.files {
+            // `-` isn't the file of that name.
+            if *path == "-" {
+                continue;
+            }
             if let Ok(found) = fs::metadata(self.rt, path) {
                 if found.is_file() && found.len() == 0 {
                     text.push_str("; ")?;

@@ -2,7 +2,7 @@
 
 use crate::arguments::StatusTask;
 use crate::files::push_file;
-use code_words::meaning_of_line;
+use code_words::{meaning_of_line, push_name};
 use file_words::{
     LineSpeaker, first_piped, push_file_words, push_gone, push_source_name, say_text,
 };
@@ -105,12 +105,15 @@ impl<'a> StandingSpeaker<'a> {
             if !text.is_empty() {
                 text.push('\n')?;
             }
-            let members = self.members;
             write!(
                 text,
                 "site {site}: bags that are known elsewhere, and not to it: {lacks}; if that lasts, \
-                `bagpaxos catch-up --members {members} --to {site}` with a list of `ledger` or a cell \
-                of another site brings it up to date"
+                `bagpaxos catch-up --members "
+            )?;
+            push_name(text, self.members)?;
+            write!(
+                text,
+                " --to {site}` with a list of `ledger` or a cell of another site brings it up to date"
             )?;
         }
         Ok(())
