@@ -22,13 +22,11 @@ pub(crate) fn request_text(
 
 /// Whether these bytes ask to deposit the folder of this path.
 pub(crate) fn asks_for(alloc: Global, federation: u64, bytes: &[u8], path: &str) -> bool {
-    match decode(alloc, federation, bytes) {
-        Ok(
-            Message {
-                body: Body::Deposit { path: asked },
-                ..
-            },
-        ) => asked.as_str() == path,
+    let Ok(message) = decode(alloc, federation, bytes) else {
+        return false;
+    };
+    match &message.body {
+        Body::Deposit { path: asked } => asked.as_str() == path,
         _ => false,
     }
 }
