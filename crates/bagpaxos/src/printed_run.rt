@@ -126,7 +126,7 @@ fn run_bytes(rt: &HostRuntime, task: &RunTask<'_>, bytes: &[u8]) -> Result<u8, P
     let status = run_on(rt.alloc(), &mut rest, &mut io::writer(rt), task.options)?;
     if status != 0 {
         if task.words {
-            say_schedule_fault(rt, task.file, bytes);
+            say_schedule_fault(rt, bytes);
         }
         return Ok(status);
     }

@@ -4,7 +4,7 @@ use code_words::push_name;
 use std::alloc::Global;
 use std::fs::{File, OpenOptions};
 use std::io::{self, ErrorKind, Read, Write};
-use system_files::{FileId, expect_room, expect_same, regular_file_at};
+use system_files::{expect_room, expect_same, regular_file_at};
 
 /// How a time of this century begins, each `N` being a digit: a line of a log begins so.
 const TIME: &[u8] = b"20NN-NN-NNT";
@@ -22,7 +22,7 @@ impl LogFile {
     /// The file of this path, which is created if missing. Where that fails, standard error
     /// says so, and no line is kept.
     pub(crate) fn open(rt: &HostRuntime, path: &str) -> LogFile {
-        match appending(rt, path) {
+        match log_at(rt, path) {
             Ok(file) => LogFile { file: Some(file) },
             Err(error) => {
                 say_unopened(rt, path, &error);
@@ -43,25 +43,35 @@ impl LogFile {
     }
 }
 
-// The file of this path, which is a regular one: a pipe's open would wait for its reader. It is new
-// or a log: lines that are appended to a cell or a key file would destroy it.
+// The file of this path, which is new or a log.
+fn log_at(rt: &HostRuntime, path: &str) -> io::Result<File> {
+    expect_log(rt, path)?;
+    appending(rt, path)
+}
+
+// The file of this path, which is a regular one: a pipe's open would wait for its reader.
 fn appending(rt: &HostRuntime, path: &str) -> io::Result<File> {
     let seen = regular_file_at(rt, path)?;
-    if seen.is_some() && !is_log(rt, path, seen)? {
-        return Err(ErrorKind::InvalidData.into());
-    }
     let file = OpenOptions::new().append(true).create(true).open(rt, path)?;
     expect_same(seen, &file)?;
     Ok(file)
 }
 
-// Whether the file of this path, which was seen there, is empty or begins as a log does.
-fn is_log(rt: &HostRuntime, path: &str, seen: Option<FileId>) -> io::Result<bool> {
+// If a file is there, it is empty or begins as a log does: lines that are appended to a cell or a
+// key file would destroy it.
+fn expect_log(rt: &HostRuntime, path: &str) -> io::Result<()> {
+    let seen = regular_file_at(rt, path)?;
+    if seen.is_none() {
+        return Ok(());
+    }
     let mut file = File::open(rt, path)?;
     expect_same(seen, &file)?;
     let mut front = [0u8; 11];
     let count = file.read(&mut front)?;
-    Ok(begins_line(&front[..count]))
+    if begins_line(&front[..count]) {
+        return Ok(());
+    }
+    Err(ErrorKind::InvalidData.into())
 }
 
 // Whether these bytes, of which a full disk may have kept a few alone, are how a line begins.
