@@ -15,9 +15,9 @@ pub(crate) struct Held {
 impl Held {
     /// Holds the places that are closed, in order; nothing can be written there.
     pub(crate) fn places(rt: &HostRuntime) -> Held {
-        let input = held(rt, "/proc/self/fd/0");
-        let output = held(rt, "/proc/self/fd/1");
-        let errors = held(rt, "/proc/self/fd/2");
+        let input = holder_of(rt, "/proc/self/fd/0");
+        let output = holder_of(rt, "/proc/self/fd/1");
+        let errors = holder_of(rt, "/proc/self/fd/2");
         Held {
             _input: input,
             _output: output,
@@ -27,7 +27,7 @@ impl Held {
 }
 
 // What is opened in place of this one, if it is closed.
-fn held(rt: &HostRuntime, place: &str) -> Option<File> {
+fn holder_of(rt: &HostRuntime, place: &str) -> Option<File> {
     match fs::metadata(rt, place) {
         Ok(_) => None,
         Err(_) => File::open(rt, "/dev/null").ok(),
