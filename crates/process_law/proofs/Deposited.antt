@@ -9,7 +9,7 @@ use Rattle.fed_types.specs.Lists.{is_in}
 use Rattle.fed_types.specs.Sites.{Membership, members_of}
 use Rattle.fed_types.specs.Slots.{SlotName}
 use Rattle.fed_types.specs.Values.{IsMembership}
-use Rattle.fed_types.specs.Laws.Lists.{is_in_decides, has_none}
+use Rattle.fed_types.specs.Laws.Lists.{is_in_decides}
 use Rattle.cell_device.specs.declared.fuse.FuseState.{FuseState}
 use Rattle.cell_device.specs.declared.fuse.FuseState.TheVariants.{Clear}
 use Rattle.cell_device.specs.Images.{at_rest}
@@ -227,7 +227,7 @@ module _ (members : Membership) (is_membership : IsMembership members) (slot : S
   made : Batches device (turn_of no_cell [] (Some folders)) start batch (Ok tt) end
   made = record {
     took = refl;
-    together = (omega arith, λ taken among. absurd (has_none among));
+    together = omega arith;
     follow = (new, comes, refl);
     synced = record {
       syncs = λ opened. synced its r (commits its is_membership.1 [] tt r is_record);
