@@ -1,8 +1,11 @@
--- Datagrams that arrive in the order of their numbers: where each is of the slot, and goes to one
--- of those that run, nothing disturbs them, and each one arrives.
-use Rattle.std.proofs.Common.{ℕ, zero, suc, ◌≡◌, ◌≤◌, ◌<◌, ◌+◌, Bool, true, false, ◌&&◌, inl, inr}
-use Rattle.std.proofs.Common.{refl, ap, subst, List, [], ◌∷◌, length, Option, None, Some, arith}
-use Rattle.std.proofs.lemmas.Bool.{cases_eq, and_parts, false≢true}
+-- Datagrams that arrive, all in the order of their numbers or those of some numbers: where each is
+-- of the slot, and goes to one of those that run, nothing disturbs them, and each one arrives.
+use Rattle.std.proofs.Common.{ℕ, zero, suc, ◌≡◌, ◌≤◌, ◌<◌, ◌+◌, Bool, true, false, ◌&&◌, cond}
+use Rattle.std.proofs.Common.{inl, inr}
+use Rattle.std.proofs.Common.{refl, sym, ◌∙◌, ap, subst, List, [], ◌∷◌, length, Option, None}
+use Rattle.std.proofs.Common.{Some, arith}
+use Rattle.std.specs.Prelude.{slice_get}
+use Rattle.std.proofs.lemmas.Bool.{cases_eq, and_parts, and_from, false≢true}
 use Rattle.std.proofs.lemmas.Option.{slice_get_within}
 use Rattle.fed_types.specs.Lists.{Has, here, there, is_in}
 use Rattle.fed_types.specs.Quorums.{QuorumSystem}
@@ -12,7 +15,7 @@ use Rattle.fed_types.specs.Laws.Slots.{same_slot_decides}
 use Rattle.schedule.specs.declared.fate.Fate.TheVariants.{Whole}
 use Rattle.site.specs.Effects.{Send}
 use Rattle.world_law.specs.Networks.{Network, Deliver, datagram_at, happens}
-use Rattle.reach_law.specs.Examples.{arrivals}
+use Rattle.reach_law.specs.Examples.{arrivals, arrive}
 use Rattle.reach_law.specs.Undisturbed.{Comes, AreUndisturbed}
 
 -- ---- of two numbers, or of three, each
@@ -89,3 +92,80 @@ pub has_each : (sent : List Send) (before count number : ℕ) (d : Send)
 has_each sent before count zero d all l at = absurd (omega (arith, l))
 has_each sent before count (suc k) d all l at =
     has_arrival count before (suc k) l (omega (arith, all, slice_get_within sent k d at))
+
+-- ---- datagrams of these numbers
+
+-- each that arrives is of the slot, and goes to one of those that run
+abbrev pub each_is_of_it :
+    QuorumSystem → (running : List ℕ) → SlotName → Network → (numbers : List ℕ) → Bool
+each_is_of_it q running slot w [] = true
+each_is_of_it q running slot w (zero ∷ numbers) = false
+each_is_of_it q running slot w (suc before ∷ numbers) =
+    is_of_it running slot (datagram_at (suc before) w.sent)
+    && each_is_of_it q running slot (happens q w (Deliver (suc before) Whole)).network numbers
+
+pub undisturbed_each : (q : QuorumSystem) (running : List ℕ) (slot : SlotName) (w : Network)
+    (numbers : List ℕ) → each_is_of_it q running slot w numbers ≡ true
+    → AreUndisturbed q running slot 0 w (arrive numbers)
+unfolding AreUndisturbed
+undisturbed_each q running slot w [] passes = tt
+undisturbed_each q running slot w (zero ∷ numbers) passes = absurd (false≢true passes)
+undisturbed_each q running slot w (suc before ∷ numbers) passes =
+    let at = datagram_at (suc before) w.sent in
+    let then = (happens q w (Deliver (suc before) Whole)).network in
+    let both =
+    and_parts (is_of_it running slot at) (each_is_of_it q running slot then numbers) passes in (
+      inl (comes running slot 0 before w (omega arith) at refl both.0),
+      undisturbed_each q running slot then numbers both.1,
+    )
+
+-- each of the slot, to one of those that run, has one of these numbers, counted from `before` on
+abbrev pub are_among : (running : List ℕ) → SlotName → (numbers : List ℕ) → (before : ℕ)
+    → List Send → Bool
+are_among running slot numbers before [] = true
+are_among running slot numbers before (d ∷ sent) =
+    cond (is_of_it running slot (Some d)) (is_in numbers (suc before)) true
+    && are_among running slot numbers (suc before) sent
+
+is_it : (running : List ℕ) (slot : SlotName) (d : Send) → d.message.slot ≡ slot → Has d.to running
+    → is_of_it running slot (Some d) ≡ true
+is_it running slot d same runs =
+    and_from (same_slot d.message.slot slot) (is_in running d.to)
+    ((same_slot_decides d.message.slot slot).1 same) ((is_in_decides running d.to).1 runs)
+
+has_number : (running : List ℕ) (slot : SlotName) (numbers : List ℕ) (before k : ℕ)
+    (sent : List Send) (d : Send) → are_among running slot numbers before sent ≡ true
+    → slice_get sent k ≡ Some d → d.message.slot ≡ slot → Has d.to running
+    → Has (suc (before + k)) numbers
+has_number running slot numbers before k [] d passes at same runs = absurd (cc at)
+has_number running slot numbers before zero (x ∷ sent) d passes at same runs =
+    let is : x ≡ d = cc in
+    let both =
+    and_parts (cond (is_of_it running slot (Some x)) (is_in numbers (suc before)) true)
+    (are_among running slot numbers (suc before) sent) passes in
+    let found : is_in numbers (suc before) ≡ true =
+    ap (λ t. cond t (is_in numbers (suc before)) true)
+    (sym (ap (λ y. is_of_it running slot (Some y)) is ∙ is_it running slot d same runs)) ∙ both.0 in
+    subst (λ n. Has n numbers) (omega arith) ((is_in_decides numbers (suc before)).0 found)
+has_number running slot numbers before (suc k) (x ∷ sent) d passes at same runs =
+    let both =
+    and_parts (cond (is_of_it running slot (Some x)) (is_in numbers (suc before)) true)
+    (are_among running slot numbers (suc before) sent) passes in
+    subst (λ n. Has n numbers) (omega arith)
+    (has_number running slot numbers (suc before) k sent d both.1 at same runs)
+
+arrives_too : (number : ℕ) (numbers : List ℕ) → Has number numbers
+    → Has (Deliver number Whole) (arrive numbers)
+arrives_too number [] h = absurd (has_none h)
+arrives_too number (n ∷ numbers) (here e) = here (ap (λ (k : ℕ). Deliver k Whole) e)
+arrives_too number (n ∷ numbers) (there h) = there (arrives_too number numbers h)
+
+pub has_each_among : (running : List ℕ) (slot : SlotName) (numbers : List ℕ) (sent : List Send)
+    (number : ℕ) (d : Send) → are_among running slot numbers 0 sent ≡ true
+    → datagram_at number sent ≡ Some d → d.message.slot ≡ slot → Has d.to running
+    → Has (Deliver number Whole) (arrive numbers)
+has_each_among running slot numbers sent zero d passes at same runs = absurd (cc at)
+has_each_among running slot numbers sent (suc k) d passes at same runs =
+    arrives_too (suc k) numbers
+    (subst (λ n. Has n numbers) (omega arith)
+    (has_number running slot numbers 0 k sent d passes at same runs))

@@ -16,5 +16,6 @@ pub mod Outbidding
 pub mod TwoProposals
 pub mod Arriving
 pub mod ThreeSites
+pub mod TwoOfThree
 pub mod InTurn
 pub mod OfTwo

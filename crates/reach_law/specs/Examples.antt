@@ -1,5 +1,5 @@
--- Three sites, and a ballot that is undisturbed.
-use Rattle.std.specs.Prelude.{ℕ, zero, suc, List, [], ◌∷◌, replicate, Ok}
+-- Three sites, and a ballot that is undisturbed: of three that run, or of two.
+use Rattle.std.specs.Prelude.{ℕ, zero, suc, List, [], ◌∷◌, map, replicate, Ok}
 use Rattle.fed_types.specs.declared.bag_id.BagId.{BagId}
 use Rattle.fed_types.specs.Quorums.{QuorumSystem, quorums_of}
 use Rattle.fed_types.specs.Slots.{SlotName}
@@ -32,3 +32,13 @@ arrivals before (suc count) = Deliver (suc before) Whole ∷ arrivals (suc befor
 pub record CanBeUndisturbed : Type 0 where
   pub can : CanOutbid deposited (1 ∷ 2 ∷ 3 ∷ []) a 1
   pub all : AllArrive three deposited (1 ∷ 2 ∷ 3 ∷ []) a 1 (arrivals 0 18)
+
+-- the datagrams of these numbers arrive, one after another
+abbrev pub arrive : (numbers : List ℕ) → List Event
+arrive numbers = map (λ number. Deliver number Whole) numbers
+
+-- The same where the third is down: of 14 datagrams the four to it (3, 8, 11, 14) are lost.
+pub record CanBeUndisturbedByTwo : Type 0 where
+  pub can : CanOutbid deposited (1 ∷ 2 ∷ []) a 1
+  pub all : AllArrive three deposited (1 ∷ 2 ∷ []) a 1
+      (arrive (1 ∷ 2 ∷ 4 ∷ 5 ∷ 6 ∷ 7 ∷ 9 ∷ 10 ∷ 12 ∷ 13 ∷ []))

@@ -1,8 +1,13 @@
-ghost use Rattle.reach_law.specs.Examples.{CanBeUndisturbed};
+ghost use Rattle.reach_law.specs.Examples.{CanBeUndisturbed, CanBeUndisturbedByTwo};
 
 // A function here does nothing: its contract is an example, computed.
 
 /// A ballot can be undisturbed: three sites, one of which has a deposit, and 18 datagrams.
 pub fn a_ballot_may_be_undisturbed()
     ensures { CanBeUndisturbed }
+{}
+
+/// It can where the third site is down: what is sent to that one need not arrive.
+pub fn a_ballot_of_two_may_be_undisturbed()
+    ensures { CanBeUndisturbedByTwo }
 {}
