@@ -6,7 +6,7 @@ ghost use Rattle.words.specs.Pushes.{Pushes};
 ghost use Rattle.audit_command.specs.Words.{Explains};
 
 use crate::disk_cells::DiskCell;
-use code_words::push_name;
+use code_words::{path_fault, push_name};
 use std::alloc::AllocError;
 use std::fmt::Display;
 use std::io::{self, ErrorKind};
@@ -46,6 +46,9 @@ fn say_state(rt: &HostRuntime, path: &str, state: &str) {
 }
 
 fn say_unopened(rt: &HostRuntime, path: &str, error: &io::Error) {
+    if let Some(fault) = path_fault(rt, path, error.kind()) {
+        return say_state(rt, path, fault);
+    }
     let mut text = String::new(rt.alloc());
     if push_unopened(&mut text, path, error.kind(), error).is_ok() {
         let _ = rt.eprintln(text.as_str());

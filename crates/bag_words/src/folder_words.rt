@@ -5,6 +5,7 @@ use crate::counts::{Counts, push_counts};
 use crate::empty_folders::push_empty_folders;
 use crate::finding::{Finding, findings_in};
 use crate::lenient::{Gathered, gather};
+use crate::list_kind::{kind_with, said_of};
 use crate::listed::TextLines;
 use crate::near_names::NearNames;
 use crate::oxum::push_oxum;
@@ -17,7 +18,7 @@ use crate::unread::{UnreadPaths, push_unread_places};
 use bag_check::FilesByPath;
 use bag_explain::{explain, explain_gaps};
 use bag_tree::{Facts, TreeFault};
-use code_words::{invalid, unread};
+use code_words::{FileKind, invalid, unread};
 use std::alloc::{AllocError, Global};
 
 /// Appends the words on a folder that was read, each line ended by LF: each place where a fault
@@ -46,19 +47,21 @@ pub(crate) fn push_read_words(
 }
 
 /// Appends the words on a folder that can't be read, for this reason: each place that can't be
-/// read, and the words on what can.
+/// read, and the words on what can. Of the list that has it, what it is if it is none of folders,
+/// and this wasn't said before.
 pub(crate) fn push_unread_words(
     rt: &HostRuntime,
     text: &mut String,
     folder: &str,
     fault: TreeFault,
     wanted: Wanted,
+    list: &mut Option<FileKind>,
 ) -> Result<(), AllocError> {
     if let Some(meaning) = unread(fault.number()) {
         let code = meaning.code;
         write!(text, "{code}: ")?;
         meaning.push(text)?;
-        push_line_end(text, folder)?;
+        push_line_fault(text, folder, list)?;
         text.push('\n')?;
     }
     let Gathered { facts, places } = gather(rt, folder, wanted == Wanted::All)?;
@@ -86,6 +89,26 @@ pub(crate) fn push_unread_words(
     }
 }
 
+// Appends of which other kind the list is that has this name as a line, once; or else why the name
+// may be that of no folder.
+fn push_line_fault(
+    text: &mut String,
+    folder: &str,
+    list: &mut Option<FileKind>,
+) -> Result<(), AllocError> {
+    let kind = kind_with(folder);
+    match kind {
+        // What is left of such a list at its end is a zero byte.
+        None if *list == Some(FileKind::Utf16) => Ok(()),
+        None => push_line_end(text, folder),
+        _ if *list == kind => Ok(()),
+        Some(found) => {
+            *list = kind;
+            text.push_str(said_of(found))
+        }
+    }
+}
+
 // Appends why a name may be that of no folder: it was read from a list with line ends of Windows, or
 // with an empty line.
 fn push_line_end(text: &mut String, folder: &str) -> Result<(), AllocError> {
@@ -94,6 +117,9 @@ fn push_line_end(text: &mut String, folder: &str) -> Result<(), AllocError> {
     }
     if folder.contains('\0') {
         return text.push_str("; its name has zero bytes: use --from0");
+    }
+    if folder.contains('\n') {
+        return text.push_str("; its name has line ends: use --from");
     }
     if folder.starts_with('\u{feff}') {
         return text.push_str("; its name begins with a byte order mark: save the list without");

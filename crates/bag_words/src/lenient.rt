@@ -98,7 +98,10 @@ impl Walk<'_> {
         let path = self.path_of(below)?;
         let entries = match fs::read_dir(self.rt, path.as_str()) {
             Ok(entries) => entries,
-            Err(error) => return self.note(below, Reason::of_error(&error)),
+            Err(error) => {
+                let reason = Reason::of_path(self.rt, path.as_str(), &error);
+                return self.note(below, reason);
+            }
         };
         for entry in entries {
             match entry {

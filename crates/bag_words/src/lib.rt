@@ -15,6 +15,7 @@ mod finding;
 mod folder_words;
 mod found_digest;
 mod lenient;
+mod list_kind;
 mod listed;
 mod manifest_line;
 mod meant_manifest;

@@ -3,13 +3,11 @@
 use crate::bag::ALGORITHMS;
 use crate::finding::Finding;
 use bag_text::Algorithm;
-use code_words::push_name;
+use code_words::{MARK, push_name};
 use std::alloc::AllocError;
 
 /// How many bytes of a line are shown.
 const SHOWN: usize = 160;
-
-const MARK: &[u8] = b"\xef\xbb\xbf";
 
 /// Appends the line, and what is wrong with it.
 pub(crate) fn push_malformed(

@@ -4,7 +4,7 @@ use crate::folder_words::{push_read_words, push_unread_words};
 use bag_check::BagFault;
 use bag_folders::Folders;
 use bag_tree::{Facts, TreeFault};
-use code_words::push_name;
+use code_words::{FileKind, push_line_name};
 use std::alloc::AllocError;
 use std::io::IsTerminal;
 
@@ -37,6 +37,8 @@ struct Words<'a> {
     are_named: bool,
     folder: String,
     text: String,
+    /// What was said of the list that has the names, if it is none of folders.
+    list: Option<FileKind>,
 }
 
 impl<'a, F: Folders> SpokenFolders<'a, F> {
@@ -54,6 +56,7 @@ impl<'a, F: Folders> SpokenFolders<'a, F> {
             are_named,
             folder: String::new(rt.alloc()),
             text: String::new(rt.alloc()),
+            list: None,
         };
         SpokenFolders { folders, words }
     }
@@ -109,7 +112,9 @@ impl Words<'_> {
     // Notes what is to be said of one that can't be read.
     fn note_unread(&mut self, path: &str, fault: TreeFault) {
         if self.wanted != Wanted::Nothing && self.folder.push_str(path).is_ok() {
-            let _ = push_unread_words(self.rt, &mut self.text, path, fault, self.wanted);
+            let wanted = self.wanted;
+            let list = &mut self.list;
+            let _ = push_unread_words(self.rt, &mut self.text, path, fault, wanted, list);
         }
     }
 
@@ -133,7 +138,7 @@ impl Words<'_> {
 
     fn say_named(&self) -> Result<(), AllocError> {
         let mut name = String::new(self.rt.alloc());
-        push_name(&mut name, self.folder.as_str())?;
+        push_line_name(&mut name, self.folder.as_str())?;
         for line in self.text.as_str().lines() {
             let _ = eprintln!(self.rt; "{name}: {line}");
         }

@@ -1,7 +1,7 @@
 //! Places of a folder that can't be read.
 
 use bag_tree::TreeFault;
-use code_words::push_name;
+use code_words::{is_link, push_line_name, push_name};
 use std::alloc::{AllocError, Global};
 use std::collections::BTreeSet;
 use std::fs::Metadata;
@@ -19,10 +19,12 @@ pub(crate) struct Unread {
 #[derive(Clone, Copy, Debug, PartialEq, Eq)]
 pub(crate) enum Reason {
     Absent,
+    Dangling,
     NoRight,
     NoFolder,
     NotUtf8,
     LongName,
+    ZeroBytes,
     Circle,
     Link,
     Special,
@@ -42,8 +44,18 @@ impl Reason {
             // Of a name that isn't UTF-8 the system says nothing.
             ErrorKind::InvalidFilename if error.raw_os_error().is_none() => Reason::NotUtf8,
             ErrorKind::InvalidFilename => Reason::LongName,
+            // So is a name that has zero bytes, which the system isn't asked for.
+            ErrorKind::InvalidInput if error.raw_os_error().is_none() => Reason::ZeroBytes,
             ErrorKind::FilesystemLoop => Reason::Circle,
             _ => Reason::Failing,
+        }
+    }
+
+    /// Why the folder of this path can't be read, after this error.
+    pub(crate) fn of_path(rt: &HostRuntime, path: &str, error: &io::Error) -> Reason {
+        match Reason::of_error(error) {
+            Reason::Absent if is_link(rt, path) => Reason::Dangling,
+            reason => reason,
         }
     }
 
@@ -68,10 +80,12 @@ impl Reason {
     fn words(self) -> &'static str {
         match self {
             Reason::Absent => "isn't there",
+            Reason::Dangling => "is a link, and what it leads to isn't there",
             Reason::NoRight => "may not be read by this user",
             Reason::NoFolder => "isn't a folder",
             Reason::NotUtf8 => "has an entry whose name isn't UTF-8; rename that",
             Reason::LongName => "can't be read: its name is too long for this disk",
+            Reason::ZeroBytes => "has zero bytes, and so no folder has this name",
             Reason::Circle => "can't be read: its links lead in a circle, and to no file",
             Reason::Link => "is a link; put a copy of what it leads to in its place",
             Reason::Special => "is a pipe, a socket or a device, and a bag has files and folders",
@@ -92,7 +106,7 @@ pub(crate) fn push_unread_places(
     for place in places {
         text.push_str("  ")?;
         if place.path.as_str() == "." {
-            push_name(text, folder)?;
+            push_line_name(text, folder)?;
         } else {
             push_name(text, place.path.as_str())?;
         }

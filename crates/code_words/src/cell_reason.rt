@@ -1,16 +1,12 @@
 //! Why a cell can't be opened.
 
+use crate::file_kind::kind_at;
 use crate::file_reason::{bytes_at, push_error};
+use crate::file_start::{CELL_START, SYNCED};
 use crate::name::push_path;
 use std::alloc::AllocError;
 use std::fs::{self, File, OpenOptions, TryLockError};
 use std::io::ErrorKind;
-
-/// What a cell begins with.
-const MAGIC: &[u8] = b"BPJ";
-
-/// What the name of the file beside a cell has after the cell's.
-const SYNCED: &str = ".synced";
 
 const IN_USE: &str =
     " is in use by another process; one site, one cell: see which one runs already";
@@ -33,6 +29,9 @@ const NOT_FOUND: &str =
 const NOT_MADE: &str =
     " isn't there, and wasn't made; look at its folder, the room on its disk and the mount";
 
+/// What is said of a file that begins otherwise than a cell.
+pub const NO_CELL: &str = "; it doesn't begin as a cell does, so look at the path first";
+
 /// Appends the path of a cell and why it can't be opened, by a start with `--existing` or without.
 pub(crate) fn push_cell_reason(
     rt: &HostRuntime,
@@ -49,7 +48,7 @@ pub(crate) fn push_cell_reason(
         Ok(_) => text.push_str(" isn't a file, as a cell is"),
         Err(error) if error.kind() == ErrorKind::NotFound && existing => text.push_str(NOT_FOUND),
         Err(error) if error.kind() == ErrorKind::NotFound => text.push_str(NOT_MADE),
-        Err(error) => push_error(text, &error),
+        Err(error) => push_error(rt, text, cell, &error),
     }
 }
 
@@ -66,7 +65,7 @@ fn push_use(
             _ if is_unwritable(rt, cell) => text.push_str(" may not be written by this user"),
             _ => push_unusable(rt, text, cell, existing),
         },
-        Err(error) => push_error(text, &error),
+        Err(error) => push_error(rt, text, cell, &error),
     }
 }
 
@@ -79,7 +78,7 @@ fn push_unusable(
 ) -> Result<(), AllocError> {
     text.push_str(if existing { HEADLESS } else { UNUSABLE })?;
     match other_file(rt, cell) {
-        Some(reason) => text.push_str(reason),
+        Some(reason) => push_other(rt, text, cell, reason),
         None => Ok(()),
     }
 }
@@ -95,11 +94,29 @@ fn is_unwritable(rt: &HostRuntime, cell: &str) -> bool {
 /// Why the file of this path is no cell, after a semicolon, if it is there and is none.
 pub(crate) fn other_file(rt: &HostRuntime, cell: &str) -> Option<&'static str> {
     let bytes = bytes_at(rt, cell);
-    if bytes.is_empty() || bytes.as_slice().starts_with(MAGIC) {
+    if bytes.is_empty() || bytes.as_slice().starts_with(CELL_START) {
         return None;
     }
     if cell.ends_with(SYNCED) {
         return Some("; it is what a site leaves beside its cell: give the cell");
     }
-    Some("; it doesn't begin as a cell does, so look at the path first")
+    Some(NO_CELL)
+}
+
+/// Appends this reason why the file of this path is no cell, and of what kind the file is, if that
+/// is known.
+pub(crate) fn push_other(
+    rt: &HostRuntime,
+    text: &mut String,
+    cell: &str,
+    reason: &str,
+) -> Result<(), AllocError> {
+    text.push_str(reason)?;
+    if reason != NO_CELL {
+        return Ok(());
+    }
+    match kind_at(rt, cell) {
+        Some(kind) => text.push_str(kind.said()),
+        None => Ok(()),
+    }
 }

@@ -1,12 +1,10 @@
 //! What is wrong with the first command of a schedule.
 
+use crate::file_start::MARK;
 use crate::kind::Kind;
 use crate::schedule_command::{push_comment_words, push_first_fault};
 use crate::word_text::push_found;
 use std::alloc::{AllocError, Global};
-
-/// A byte order mark.
-pub(crate) const MARK: &[u8] = b"\xef\xbb\xbf";
 
 /// Appends what is wrong with the first command, of these words.
 pub(crate) fn push_first_words(

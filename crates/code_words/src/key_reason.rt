@@ -1,6 +1,6 @@
 //! What is wrong with a line of a key file.
 
-use crate::federation_line::MARK;
+use crate::file_kind::{FileKind, kind_of};
 use crate::file_reason::bytes_at;
 use crate::text_lines::line_at;
 use std::alloc::{AllocError, Global};
@@ -22,7 +22,10 @@ pub(crate) fn key_reason(
     if !has_line(text, number) {
         return Ok(Some("; it has no line `clients HEX`"));
     }
-    line_reason(rt.alloc(), line_at(text, number))
+    match kind_of(text) {
+        Some(kind) if number == 1 && kind != FileKind::Key => Ok(Some(kind.said())),
+        _ => line_reason(rt.alloc(), line_at(text, number)),
+    }
 }
 
 // Whether a text has a line of this number.
@@ -38,9 +41,6 @@ fn has_line(text: &[u8], number: usize) -> bool {
 }
 
 fn line_reason(alloc: Global, line: &[u8]) -> Result<Option<&'static str>, AllocError> {
-    if line.starts_with(MARK) {
-        return Ok(Some("; it begins with a byte order mark: save it without"));
-    }
     let words = split_words(alloc, line)?;
     Ok(match words.as_slice() {
         [] => Some("; the line is blank, and a key file has no such line"),

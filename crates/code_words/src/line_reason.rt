@@ -1,15 +1,17 @@
 //! What a line of `site` or `send` says.
 
 use crate::asked::Asked;
-use crate::cell_reason::{other_file, push_cell_reason};
+use crate::cell_reason::{other_file, push_cell_reason, push_other};
+use crate::file_kind::kind_at;
 use crate::file_reason::{is_piped, push_file_reason};
 use crate::key_reason::key_reason;
 use crate::meaning::Meaning;
 use crate::members_reason::{place_of, push_line_reason, push_stranger};
 use crate::name::push_name;
 use crate::of_line::meaning_of_line;
+use crate::place_pair::push_listened;
 use members_file::Place;
-use std::alloc::AllocError;
+use std::alloc::{AllocError, Global};
 
 /// What is said of an address at which no socket can be had.
 const NOT_HAD: &str =
@@ -29,12 +31,14 @@ pub(crate) fn push_reason(
     match line {
         "members unread" => push_file_reason(rt, text, asked.members),
         "key unread" => push_key(rt, text, asked),
+        "key open to others" => push_open_key(rt, text, asked, line),
         "not a member" => push_stranger(text, asked),
         "bags unread" => push_bags(rt, text, asked),
         "no answer" => push_silence(rt, text, asked),
         "socket" => push_socket(rt, text, asked),
         "open 4" => push_cell(rt, text, asked),
-        _ if is_undecided(line) => push_in_vain(text, asked),
+        _ if is_reply(line, "pending") => push_in_vain(text, asked),
+        _ if is_reply(line, "nothing") => push_unheard(text, asked),
         _ => push_meaning(rt, text, asked, line),
     }
 }
@@ -53,7 +57,7 @@ fn push_meaning(
     match reason_for(rt, asked, line)? {
         Some(reason) => {
             text.push_str(meaning.words)?;
-            text.push_str(reason)
+            push_other(rt, text, asked.cell.unwrap_or(""), reason)
         }
         None => {
             meaning.push(text)?;
@@ -156,6 +160,26 @@ fn push_key(rt: &HostRuntime, text: &mut String, asked: &Asked<'_>) -> Result<()
     }
 }
 
+// Appends that others have rights to the key file, or that the file is none at all.
+fn push_open_key(
+    rt: &HostRuntime,
+    text: &mut String,
+    asked: &Asked<'_>,
+    line: &str,
+) -> Result<(), AllocError> {
+    if let Some(key) = asked.key {
+        match kind_at(rt, key) {
+            Some(kind) if kind.is_no_key() => {
+                push_name(text, key)?;
+                let name = kind.name();
+                return write!(text, " isn't a key file: it is {name}");
+            }
+            _ => {}
+        }
+    }
+    push_meaning(rt, text, asked, line)
+}
+
 fn push_bags(rt: &HostRuntime, text: &mut String, asked: &Asked<'_>) -> Result<(), AllocError> {
     let Some(bags) = asked.bags else {
         return Ok(());
@@ -194,12 +218,27 @@ fn push_silence(rt: &HostRuntime, text: &mut String, asked: &Asked<'_>) -> Resul
     )
 }
 
-// Whether a site replies that it knows no bag.
-fn is_undecided(line: &str) -> bool {
-    line.starts_with("reply ") && matches!(line.split(' ').nth(4), Some("pending" | "nothing"))
+// Whether a site replies this of a version.
+fn is_reply(line: &str, what: &str) -> bool {
+    line.starts_with("reply ") && line.split(' ').nth(4) == Some(what)
 }
 
-// Appends why a site may know no bag, where it was asked until it does.
+// Appends why a site may know no bag of a version of which it has heard nothing, where it was asked
+// until it knows one: most likely nobody has deposited one.
+fn push_unheard(text: &mut String, asked: &Asked<'_>) -> Result<(), AllocError> {
+    let Some(seconds) = asked.until_known else {
+        return Ok(());
+    };
+    let site = asked.site;
+    write!(
+        text,
+        "site {site} answers, and no bag was known after {seconds} s: it has no deposit of this \
+        version, and has heard of no bag; look at the name and the version, and see by \
+        bagpaxos status whether sites with more than half of all weight run"
+    )
+}
+
+// Appends why a site may know no bag that was deposited, where it was asked until it does.
 fn push_in_vain(text: &mut String, asked: &Asked<'_>) -> Result<(), AllocError> {
     let Some(seconds) = asked.until_known else {
         return Ok(());
@@ -215,7 +254,7 @@ fn push_in_vain(text: &mut String, asked: &Asked<'_>) -> Result<(), AllocError> 
 fn push_socket(rt: &HostRuntime, text: &mut String, asked: &Asked<'_>) -> Result<(), AllocError> {
     if asked.cell.is_some() {
         if let Some(place) = place_of(rt, asked) {
-            return push_refused_place(text, &place, asked.listens);
+            return push_refused_place(rt.alloc(), text, &place, asked.listens);
         }
     }
     text.push_str("the system gives no port for the answer")
@@ -223,6 +262,7 @@ fn push_socket(rt: &HostRuntime, text: &mut String, asked: &Asked<'_>) -> Result
 
 // Appends why a site may get no socket at its place.
 fn push_refused_place(
+    alloc: Global,
     text: &mut String,
     place: &Place,
     listens: Option<&str>,
@@ -236,7 +276,7 @@ fn push_refused_place(
             "port {port} can't be had: another process has it, or the system refuses it; \
             `ss -lunp` says which"
         ),
-        (Place::Address(_), Some(listens)) => push_refused_address(text, listens),
+        (Place::Address(_), Some(listens)) => push_refused_address(alloc, text, place, listens),
         (Place::Address(address), None) => {
             write!(text, "{address}")?;
             text.push_str(NOT_HAD)
@@ -244,8 +284,19 @@ fn push_refused_place(
     }
 }
 
-// Appends why a site may get no socket at the address that --listen names.
-fn push_refused_address(text: &mut String, listens: &str) -> Result<(), AllocError> {
+// Appends why a site of this place may get no socket at the address that --listen names.
+fn push_refused_address(
+    alloc: Global,
+    text: &mut String,
+    place: &Place,
+    listens: &str,
+) -> Result<(), AllocError> {
+    match Place::parse(alloc, listens.as_bytes())? {
+        Some(other) if other.kind() != place.kind() => {
+            return push_listened(text, &other, place);
+        }
+        _ => {}
+    }
     push_name(text, listens)?;
     text.push_str(NOT_HAD)
 }

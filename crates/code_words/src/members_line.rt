@@ -2,6 +2,7 @@
 
 use crate::federation_line::push_mark_words;
 use crate::kind::Kind;
+use crate::line_kind::push_list_kind;
 use crate::place_pair::push_pair_words;
 use crate::place_word::push_place_words;
 use crate::schedule_command::{push_first_fault, push_missing, push_wrong};
@@ -26,6 +27,7 @@ pub(crate) fn push_members_words(
     let words = split_words(alloc, line)?;
     if number <= 1 {
         push_federation_words(text, words.as_slice())?;
+        push_list_kind(text, line)?;
     } else {
         push_site_words(alloc, text, file, number, words.as_slice())?;
     }

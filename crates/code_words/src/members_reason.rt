@@ -1,7 +1,7 @@
 //! What is wrong with a members file, and what it says of a site.
 
 use crate::asked::Asked;
-use crate::file_reason::{bytes_at, is_piped};
+use crate::file_reason::{bytes_at, is_device, is_piped};
 use crate::members_line::push_members_words;
 use crate::name::push_name;
 use members_file::{Place, read_members};
@@ -15,14 +15,20 @@ pub(crate) fn push_line_reason(
     number: &str,
 ) -> Result<(), AllocError> {
     push_name(text, asked.members)?;
+    if is_device(rt, asked.members) {
+        return text.push_str(" is a device, and not a file");
+    }
     if is_piped(rt, asked.members) {
         return write!(
             text,
             ", line {number}: it came through a pipe, and is gone: give a file to see the line"
         );
     }
-    text.push_str(", ")?;
     let bytes = bytes_at(rt, asked.members);
+    if bytes.is_empty() {
+        return text.push_str(" is empty, and a members file begins with federation F");
+    }
+    text.push_str(", ")?;
     let number = number.parse::<usize>().unwrap_or(1);
     push_members_words(rt.alloc(), text, bytes.as_slice(), number)
 }

@@ -47,7 +47,8 @@ pub static OTHERS: [Meaning; 30] = [
     Meaning {
         code: "members other list",
         words: "the federation's number doesn't come from this list of sites",
-        advice: "the file was cut or changed: compare it with the other sites'",
+        advice: "the number was chosen by hand, or the file was cut or changed: compare it with \
+            the other sites'",
     },
     Meaning {
         code: "not a member",

@@ -33,6 +33,24 @@ pub fn push_pair_words(
     Ok(true)
 }
 
+/// Appends that the place that `--listen` names isn't of the kind that the members file has.
+pub(crate) fn push_listened(
+    text: &mut String,
+    listens: &Place,
+    place: &Place,
+) -> Result<(), AllocError> {
+    let listens = kind_name(listens.kind());
+    let has = match place.kind() {
+        PlaceKind::Port => "ports of this machine",
+        PlaceKind::Ipv4 => "addresses of IPv4",
+        PlaceKind::Ipv6 => "addresses of IPv6",
+    };
+    write!(
+        text,
+        "--listen has {listens}, and the members file has {has}"
+    )
+}
+
 fn kind_name(kind: PlaceKind) -> &'static str {
     match kind {
         PlaceKind::Port => "a port of this machine",

@@ -1,6 +1,7 @@
 //! What is wrong with a line of a schedule.
 
 use crate::federation_line::push_first_words;
+use crate::line_kind::push_list_kind;
 use crate::schedule_command::push_command_words;
 use crate::text_lines::{has_command_before, line_at};
 use std::alloc::{AllocError, Global};
@@ -24,7 +25,10 @@ pub fn push_schedule_words(
         [name, arguments @ ..] if has_command_before(alloc, schedule, number)? => {
             push_command_words(alloc, text, name, arguments)?;
         }
-        words => push_first_words(alloc, text, words)?,
+        words => {
+            push_first_words(alloc, text, words)?;
+            push_list_kind(text, line)?;
+        }
     }
     push_tab_words(text, line)
 }

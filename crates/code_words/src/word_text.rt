@@ -1,41 +1,27 @@
 //! Words of a line, as a person reads them.
 
+use crate::file_start::CELL_START;
+use crate::key_line::{hidden_digits, key_name};
 use crate::name::push_name;
+use crate::utf16::is_utf16;
 use std::alloc::AllocError;
 
 /// How many bytes of a word are shown.
 const LONGEST: usize = 100;
 
-/// What a line of a key file begins with.
-const KEY_NAMES: [&[u8]; 2] = [b"sites", b"clients"];
-
-/// What a cell begins with.
-const CELL: &[u8] = b"BPJ";
-
 /// Appends words between quotes, one space between them. Of a line of a key file it is its name
-/// alone: what is said may end in a journal that others read. A cell isn't shown either.
-pub(crate) fn push_found(text: &mut String, words: &[&[u8]]) -> Result<(), AllocError> {
+/// alone, and of so many digits as a key may have nothing: what is said may end in a journal that
+/// others read. A cell isn't shown either, nor UTF-16.
+pub fn push_found(text: &mut String, words: &[&[u8]]) -> Result<(), AllocError> {
     if let Some(name) = key_name(words) {
         return push_key_line(text, name);
     }
     match words {
-        [first, ..] if first.starts_with(CELL) => text.push_str("\"BPJ ..\"; this is a cell"),
+        [first, ..] if first.starts_with(CELL_START) => text.push_str("\"BPJ ..\"; this is a cell"),
+        _ if words.iter().any(|word| is_utf16(*word)) => {
+            text.push_str("\"..\"; it is UTF-16: save it as UTF-8")
+        }
         _ => push_all(text, words),
-    }
-}
-
-// The name that a line of a key file begins with, if these seem to be the words of such a line,
-// whatever white space is before, between and within them.
-fn key_name<'a>(words: &[&'a [u8]]) -> Option<&'a [u8]> {
-    let mut pieces = words
-        .iter()
-        .flat_map(|word| word.split(|byte| byte.is_ascii_whitespace()))
-        .filter(|piece| !piece.is_empty());
-    let name = pieces.next()?;
-    if pieces.next().is_some() && KEY_NAMES.contains(&name) {
-        Some(name)
-    } else {
-        None
     }
 }
 
@@ -58,14 +44,34 @@ fn push_all(text: &mut String, words: &[&[u8]]) -> Result<(), AllocError> {
     text.push('"')
 }
 
-// Appends a word; of a long one its beginning.
+// Appends a word; of a long one its beginning, and dots in place of digits that may be a key's.
 fn push_word(text: &mut String, word: &[u8]) -> Result<(), AllocError> {
-    match word.get(..LONGEST) {
-        Some(front) if front.len() < word.len() => {
+    let mut rest = word;
+    let mut room = LONGEST;
+    for _ in 0..word.len() {
+        let Some((begin, end)) = hidden_digits(rest) else {
+            break;
+        };
+        let front = rest.get(..begin).unwrap_or(&[]);
+        if front.len() > room {
+            break;
+        }
+        push_bytes(text, front)?;
+        text.push_str("..")?;
+        room = room.saturating_sub(front.len());
+        rest = rest.get(end..).unwrap_or(&[]);
+    }
+    push_front(text, rest, room)
+}
+
+// Appends so many bytes at most, and dots where there are more.
+fn push_front(text: &mut String, bytes: &[u8], room: usize) -> Result<(), AllocError> {
+    match bytes.get(..room) {
+        Some(front) if front.len() < bytes.len() => {
             push_bytes(text, front)?;
             text.push_str("..")
         }
-        _ => push_bytes(text, word),
+        _ => push_bytes(text, bytes),
     }
 }
 

@@ -4,11 +4,10 @@
 use crate::arguments::DepositsTask;
 use crate::line_fault::push_line_fault;
 use crate::listed_path::path_in;
-use code_words::{meaning_of_line, push_name};
+use code_words::{meaning_of_line, push_error, push_name};
 use file_words::{LineSpeaker, say_text};
 use std::alloc::AllocError;
 use std::fs::{self, File};
-use std::io::ErrorKind;
 
 /// What says the lines of deposits.
 #[derive(Clone, Copy)]
@@ -150,11 +149,7 @@ impl<'a> DepositSpeaker<'a> {
         }
         match File::open(self.rt, self.task.file) {
             Ok(_) => text.push_str(" can't be read to its end"),
-            Err(error) => match error.kind() {
-                ErrorKind::NotFound => text.push_str(" isn't there"),
-                ErrorKind::PermissionDenied => text.push_str(" may not be opened by this user"),
-                _ => write!(text, " can't be opened: {error}"),
-            },
+            Err(error) => push_error(self.rt, text, self.task.file, &error),
         }
     }
 

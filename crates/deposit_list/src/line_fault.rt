@@ -1,6 +1,6 @@
 //! What is wrong with a line of a list.
 
-use code_words::push_quoted;
+use code_words::{FileKind, MARK, kind_of, push_found};
 use dgram::LONGEST_PATH;
 use fed_types::LONGEST_OBJECT;
 use std::alloc::{AllocError, Global};
@@ -13,9 +13,6 @@ const LONGEST_SHOWN: usize = 100;
 /// What lines of `ledger` with a bag begin with.
 const LEDGER: [&[u8]; 3] = [b"known", b"pending", b"voted"];
 
-/// A byte order mark.
-const MARK: &[u8] = b"\xef\xbb\xbf";
-
 /// Appends what is wrong with the line of this number, counted from 1, the first at fault in a text
 /// that is no list of deposits.
 pub(crate) fn push_line_fault(
@@ -27,6 +24,10 @@ pub(crate) fn push_line_fault(
     let line = line_at(list, number);
     if line.starts_with(MARK) {
         return text.push_str("it begins with a byte order mark: save it without");
+    }
+    if let Some(kind) = other_kind(list, number) {
+        let said = kind.said();
+        return text.push_str(said.strip_prefix("; ").unwrap_or(said));
     }
     let words = split_words(alloc, line)?;
     match words.as_slice() {
@@ -48,6 +49,15 @@ pub(crate) fn push_line_fault(
         return text.push_str("; a tab separates no words");
     }
     Ok(())
+}
+
+// What kind of file a list is of which the first line is at fault, if it is one without deposits.
+fn other_kind(list: &[u8], number: usize) -> Option<FileKind> {
+    match kind_of(list)? {
+        FileKind::Empty | FileKind::Marked | FileKind::Ledger | FileKind::Deposits => None,
+        kind if number == 1 => Some(kind),
+        _ => None,
+    }
 }
 
 // The line of this number, counted from 1; empty where there is none.
@@ -102,7 +112,7 @@ fn is_text(alloc: Global, word: &[u8], most: usize) -> Result<bool, AllocError> 
 // Appends a word, if it is a text that isn't long.
 fn push_word(text: &mut String, word: &[u8]) -> Result<(), AllocError> {
     match str::from_utf8(word) {
-        Ok(name) if name.len() <= LONGEST_SHOWN => push_quoted(text, name),
+        Ok(name) if name.len() <= LONGEST_SHOWN => push_found(text, &[word]),
         _ => {
             let count = word.len();
             write!(text, "a word of {count} bytes")

@@ -1,16 +1,10 @@
 //! Why a file can't be read.
 
 use crate::piped::{is_piped, path_to_read};
-use code_words::push_path;
+use code_words::{CELL_START, NO_CELL, SYNCED, kind_at, push_error, push_path};
 use std::alloc::AllocError;
 use std::fs::{self, File};
-use std::io::{self, ErrorKind, Read};
-
-/// What the name of the file beside a cell has after the cell's.
-const SYNCED: &str = ".synced";
-
-/// What a cell begins with.
-const MAGIC: &[u8] = b"BPJ";
+use std::io::Read;
 
 /// What is said of the file beside a cell.
 const LENGTHS: &str = "; it is what a site leaves beside its cell: give the cell";
@@ -33,25 +27,33 @@ pub(crate) fn push_unread(
         Ok(found) if !found.is_file() => text.push_str(" isn't a file"),
         Ok(_) => match File::open(rt, path) {
             Ok(_) => text.push_str(" can't be read to its end"),
-            Err(error) => push_error(text, &error),
+            Err(error) => push_error(rt, text, path, &error),
         },
-        Err(error) => push_error(text, &error),
-    }
-}
-
-// Appends what an error of the system says of a file.
-fn push_error(text: &mut String, error: &io::Error) -> Result<(), AllocError> {
-    match error.kind() {
-        ErrorKind::NotFound => text.push_str(" isn't there"),
-        ErrorKind::PermissionDenied => text.push_str(" may not be opened by this user"),
-        _ => write!(text, " can't be opened: {error}"),
+        Err(error) => push_error(rt, text, path, &error),
     }
 }
 
 /// Appends that the file of this path isn't a cell, and why, if it is there and that is so.
 pub fn push_other_file(rt: &HostRuntime, text: &mut String, path: &str) -> Result<(), AllocError> {
     match other_file(rt, path) {
-        Some(reason) => text.push_str(reason),
+        Some(reason) => push_reason(rt, text, path, reason),
+        None => Ok(()),
+    }
+}
+
+/// Appends this reason, and of what kind the file of this path is, where it is no cell.
+pub(crate) fn push_reason(
+    rt: &HostRuntime,
+    text: &mut String,
+    path: &str,
+    reason: &str,
+) -> Result<(), AllocError> {
+    text.push_str(reason)?;
+    if reason != NO_CELL {
+        return Ok(());
+    }
+    match kind_at(rt, path_to_read(path)) {
+        Some(kind) => text.push_str(kind.said()),
         None => Ok(()),
     }
 }
@@ -80,9 +82,7 @@ pub(crate) fn other_file(rt: &HostRuntime, path: &str) -> Option<&'static str> {
     };
     match file.read(&mut front) {
         Ok(0) => Some("; it is empty, and a cell has a header at least"),
-        Ok(count) if count == front.len() && front.as_slice() != MAGIC => {
-            Some("; it doesn't begin as a cell does, so look at the path first")
-        }
+        Ok(count) if count == front.len() && front.as_slice() != CELL_START => { Some(NO_CELL) }
         _ => None,
     }
 }

@@ -1,9 +1,9 @@
 //! What is said of a file that is read.
 
-use crate::file_reason::{no_list, other_file, push_unread};
+use crate::file_reason::{no_list, other_file, push_reason, push_unread};
 use crate::line_speaker::{LineSpeaker, say_text};
 use crate::other_list::other_list;
-use crate::piped::push_source_name;
+use crate::piped::{path_to_read, push_source_name};
 use code_words::{meaning_of_line, push_name};
 use std::alloc::AllocError;
 use std::fs;
@@ -56,7 +56,7 @@ pub fn push_file_words(
     match reason_for(rt, path, line) {
         Some(reason) => {
             text.push_str(meaning.words)?;
-            text.push_str(reason)
+            push_reason(rt, text, path, reason)
         }
         None => meaning.push(text),
     }
@@ -91,7 +91,7 @@ pub fn say_if_empty(rt: &HostRuntime, words: bool, path: &str) {
     if !words {
         return;
     }
-    match fs::metadata(rt, path) {
+    match fs::metadata(rt, path_to_read(path)) {
         Ok(found) if found.is_file() && found.len() == 0 => say_text(rt, empty_words(rt, path)),
         _ => {}
     }
@@ -99,7 +99,7 @@ pub fn say_if_empty(rt: &HostRuntime, words: bool, path: &str) {
 
 fn empty_words(rt: &HostRuntime, path: &str) -> Result<String, AllocError> {
     let mut text = String::new(rt.alloc());
-    push_name(&mut text, path)?;
+    push_source_name(&mut text, path)?;
     text.push_str(" is empty, and a cell has a header at least")?;
     Ok(text)
 }

@@ -8,6 +8,7 @@
 //! ```
 #![tactic(auto)]
 
+mod empty_files;
 mod file_reason;
 mod file_speaker;
 mod line_speaker;
@@ -15,6 +16,7 @@ mod other_list;
 mod piped;
 mod spoken_lines;
 
+pub use empty_files::push_empty;
 pub use file_reason::push_other_file;
 pub use file_speaker::{FileSpeaker, push_file_words, say_if_empty, say_no_line};
 pub use line_speaker::{LineSpeaker, say_text};

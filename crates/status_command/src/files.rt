@@ -1,12 +1,10 @@
 //! What files know, and of which federation cells are.
 
+use code_words::CELL_START;
 use known_bags::{DiskSources, KnownBag, SourceFault, SourceFiles, push_known};
 use ledger::read_contents;
 use standings::versions_in;
 use std::alloc::AllocError;
-
-/// What a cell begins with.
-const CELL: &[u8] = b"BPJ";
 
 /// So many bytes of a cell have its header, and more.
 const FRONT: usize = 128;
@@ -56,7 +54,7 @@ pub(crate) fn push_file(
 }
 
 fn federation_of(rt: &HostRuntime, bytes: &[u8]) -> Result<Option<u64>, AllocError> {
-    if !bytes.starts_with(CELL) {
+    if !bytes.starts_with(CELL_START) {
         return Ok(None);
     }
     let front = bytes.get(..FRONT).unwrap_or(bytes);
