@@ -29,8 +29,19 @@ fn reason_of(
     match answer {
         Ok(0) => Ok(String::new(alloc)),
         Ok(_) => meaning_text(alloc, log.last_line()?.as_str()),
-        Err(_) => String::from_str(alloc, UNWRITTEN),
+        Err(_) => unwritten_reason(alloc, log),
     }
+}
+
+// That a line couldn't be written; and before it why the site ended, if it was the line that says
+// so.
+fn unwritten_reason(alloc: Global, log: &SiteLog<'_>) -> Result<String, AllocError> {
+    let mut text = meaning_text(alloc, log.last_words()?.as_str())?;
+    if !text.is_empty() {
+        text.push_str("; and ")?;
+    }
+    text.push_str(UNWRITTEN)?;
+    Ok(text)
 }
 
 // What the code of a line says, and what to do about it.

@@ -4,6 +4,7 @@ use crate::key_files::keys_at;
 use crate::members_arguments::MembersTask;
 use crate::printed_members::{no_random_numbers, print_text};
 use crate::stop::Stop;
+use code_words::push_name;
 use key_file::{KEY_BYTES, new_key_text};
 use outcomes::ProgramFault;
 use std::alloc::{AllocError, Global};
@@ -37,8 +38,26 @@ pub(crate) fn make_keys(
         return no_random_numbers(rt);
     }
     match make_file(rt, path, &sites, &clients) {
-        Ok(()) => print_keys(rt, task, path),
+        Ok(()) => {
+            let answer = print_keys(rt, task, path);
+            if answer.is_err() {
+                say_made(rt, path);
+            }
+            answer
+        }
         Err(stop) => print_text(rt, task, Err(stop)),
+    }
+}
+
+// Says that the file is there, though the names of its keys couldn't be printed. Where there is no
+// memory for the words, nobody is told.
+fn say_made(rt: &HostRuntime, path: &str) {
+    let mut name = String::new(rt.alloc());
+    if push_name(&mut name, path).is_ok() {
+        let _ = eprintln!(rt;
+            "bagpaxos: {name} is written; its keys' names, which couldn't be printed, are those \
+            of: bagpaxos members --key {name}"
+        );
     }
 }
 

@@ -14,8 +14,8 @@ const EXAMPLE: &str = "The members file is a text:
   site N PORT [WEIGHT]    for each of the sites 1, 2 .., at most 63: its port,
                           and its weight, 1 to 255, or else 1
 All sites are on this machine then, at 127.0.0.1. Sites on several machines have
-their addresses in place of ports, all of IPv4, as 192.0.2.1:42001, or all of
-IPv6, as [2001:db8::1]:42001. A message between sites then counts only if it
+their addresses in place of ports, all of IPv4, as 192.0.2.1:5011, or all of
+IPv6, as [2001:db8::1]:5011. A message between sites then counts only if it
 comes from the address of the site that sends it; else it is dropped. If others
 reach a site at another address than its machine's own, --listen gives its own.
 Use --key where there are addresses.
@@ -67,7 +67,7 @@ nothing came). After `refused` comes what was asked for, and a folder that can't
 be read has a line of its own. The log is opened before all else, so it has the
 last line of a site that doesn't begin to serve, too; after each last line it
 says why in words:
-  TIME - serves site 1 of 3, federation 7, port 42001, 12 records, 3 known, ..
+  TIME - serves site 1 of 3, federation 7, port 5011, 12 records, 3 known, ..
   TIME 51234 refused 1 10 14 deposit OBJ V PATH
   TIME 51234 unread 1 21 deposit OBJ V PATH PLACE
   TIME - open 3
@@ -134,7 +134,7 @@ const TOO_SHORT: &str = "--wait-most is less than --wait";
 
 /// What `--listen` takes.
 const NO_ADDRESS: &str =
-    "--listen is an address and a port, as 192.0.2.1:42001 or [2001:db8::1]:42001";
+    "--listen is an address and a port, as 192.0.2.1:5011 or [2001:db8::1]:5011";
 
 /// The most milliseconds that a turn waits while things move.
 const LONGEST_WAIT: i64 = 60000;

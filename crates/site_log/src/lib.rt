@@ -11,6 +11,7 @@
 
 mod heard_turns;
 mod log_file;
+mod log_lines;
 mod logged_folders;
 mod logged_output;
 mod logged_port;

@@ -1,19 +1,18 @@
 //! What is noted of a site, and when.
 
-use crate::heard_turns::{Heard, HeardTurns, Subject};
+use crate::heard_turns::HeardTurns;
 use crate::log_file::LogFile;
+use crate::log_lines::{LogLines, Place, from_of};
 use crate::minute::Minute;
-use crate::moment::{end_of, minute_of, moment_text, now, text_of};
-use crate::request_text::{push_word, request_text};
-use crate::shown_address::{At, ShownPlace};
+use crate::moment::{minute_of, now};
 use crate::tally::{Kind, Role, Sender, Tally};
 use addresses::Address;
 use bag_tree::TreeFault;
 use fed_types::{Members, SiteNo};
-use records::{Entry, Record};
+use records::Record;
 use std::alloc::AllocError;
 use std::cell::RefCell;
-use udp_site::{Turn, WANTED_BUFFER};
+use udp_site::Turn;
 
 /// A log of a site, in a file. What can't be noted, out of memory or room, is left out: the site
 /// goes on. Of one sender and kind no more than 60 lines a minute are written; the others are
@@ -23,17 +22,6 @@ pub struct SiteLog<'a> {
     rt: &'a HostRuntime,
     number: SiteNo,
     state: RefCell<State>,
-}
-
-/// Where a site serves.
-#[derive(Clone, Copy)]
-struct Place {
-    members: Members,
-    address: Address,
-    /// How many bytes of datagrams its port keeps, if that is known.
-    buffer: Option<u32>,
-    /// The names of the keys of its datagrams, if they have tags.
-    keys: Option<(u32, u32)>,
 }
 
 /// What the next line needs.
@@ -93,8 +81,8 @@ impl<'a> SiteLog<'a> {
     pub fn begins(&self, records: &[Record]) {
         if let Ok(mut state) = self.state.try_borrow_mut() {
             if let Some(place) = state.place {
-                let line = self.beginning(place, records);
-                append(self.rt, &mut state, line);
+                let line = self.lines().beginning(place, records);
+                self.append(&mut state, line);
             }
         }
     }
@@ -110,8 +98,8 @@ impl<'a> SiteLog<'a> {
     pub fn ends(&self, why: &str) {
         if let Ok(mut state) = self.state.try_borrow_mut() {
             self.sum_up(&mut state);
-            let line = self.why_line(why);
-            append(self.rt, &mut state, line);
+            let line = self.lines().why(why);
+            self.append(&mut state, line);
         }
     }
 
@@ -128,6 +116,15 @@ impl<'a> SiteLog<'a> {
         match self.state.try_borrow_mut() {
             Ok(state) => String::from_str(self.rt.alloc(), state.last.as_str()),
             Err(_) => Ok(String::new(self.rt.alloc())),
+        }
+    }
+
+    /// The last line that the site has written, if that one ends it; else empty.
+    pub fn last_words(&self) -> Result<String, AllocError> {
+        let line = self.last_line()?;
+        match Role::of(line.as_str()) {
+            Role::Last => Ok(line),
+            _ => Ok(String::new(self.rt.alloc())),
         }
     }
 
@@ -174,8 +171,10 @@ impl<'a> SiteLog<'a> {
         if let Ok(mut state) = self.state.try_borrow_mut() {
             let from = from_of(state.heard.deposit());
             if self.admits(&mut state, from, Kind::Unread) {
-                let line = self.unread_line(&state, fault, place);
-                append(self.rt, &mut state, line);
+                let line = self
+                    .lines()
+                    .unread(state.place, state.heard.deposit(), fault, place);
+                self.append(&mut state, line);
             }
         }
     }
@@ -183,8 +182,8 @@ impl<'a> SiteLog<'a> {
     /// What these words say of the site, by itself.
     pub(crate) fn says(&self, words: &str) {
         if let Ok(mut state) = self.state.try_borrow_mut() {
-            let line = self.said_line(words);
-            append(self.rt, &mut state, line);
+            let line = self.lines().said(words);
+            self.append(&mut state, line);
         }
     }
 
@@ -199,6 +198,13 @@ impl<'a> SiteLog<'a> {
             } else {
                 state.last.clear();
             }
+        }
+    }
+
+    fn lines(&self) -> LogLines<'a> {
+        LogLines {
+            rt: self.rt,
+            number: self.number,
         }
     }
 
@@ -229,8 +235,11 @@ impl<'a> SiteLog<'a> {
             }
         };
         if is_written {
-            let line = self.line_of(state);
-            append(self.rt, state, line);
+            let subject = state.heard.subject();
+            let line = self
+                .lines()
+                .written(state.place, subject, state.begun.as_str());
+            self.append(state, line);
         }
     }
 
@@ -270,189 +279,42 @@ impl<'a> SiteLog<'a> {
             self.note_left_out(state, &minute, tally);
         }
         if minute.blocked > 0 {
-            let line = self.blocked_line(&minute);
-            append(self.rt, state, line);
+            let line = self.lines().blocked(&minute);
+            self.append(state, line);
         }
     }
 
     fn note_left_out(&self, state: &mut State, minute: &Minute, tally: &Tally) {
         if tally.left_out() > 0 {
-            let line = self.left_out_line(minute, tally);
-            append(self.rt, state, line);
+            let line = self.lines().left_out(minute, tally);
+            self.append(state, line);
         }
     }
 
-    // `log: N dropped in this minute (KIND)`
-    fn left_out_line(&self, minute: &Minute, tally: &Tally) -> Result<String, AllocError> {
-        let alloc = self.rt.alloc();
-        let mut line = self.time_of_summary(minute)?;
-        match tally.sender {
-            Sender::Nobody => line.push_str(" - ")?,
-            Sender::At(address) => write!(line, " {} ", At(address))?,
-            Sender::Others => line.push_str(" * ")?,
-        }
-        let count = tally.left_out();
-        let kind = tally.kind.word();
-        write!(line, "log: {count} dropped in this minute ({kind})")?;
-        Ok(line)
-    }
-
-    // `output: N dropped in this minute`
-    fn blocked_line(&self, minute: &Minute) -> Result<String, AllocError> {
-        let mut line = self.time_of_summary(minute)?;
-        let count = minute.blocked;
-        write!(line, " - output: {count} dropped in this minute")?;
-        Ok(line)
-    }
-
-    // The last moment of the minute, or the present one, if that comes first.
-    fn time_of_summary(&self, minute: &Minute) -> Result<String, AllocError> {
-        let alloc = self.rt.alloc();
-        let present = now(self.rt);
-        match (minute.number, present) {
-            (Some(number), Some(time)) if number < minute_of(time) => {
-                text_of(alloc, end_of(number))
-            }
-            _ => text_of(alloc, present),
-        }
-    }
-
-    // `WORDS`, by itself.
-    fn said_line(&self, words: &str) -> Result<String, AllocError> {
-        let mut line = self.heading(None)?;
-        line.push_str(words)?;
-        Ok(line)
-    }
-
-    // `serves site S of N, federation F, port P, R records, K known, buffer B, keys NAME NAME`
-    fn beginning(&self, place: Place, records: &[Record]) -> Result<String, AllocError> {
-        let Place {
-            members,
-            address,
-            buffer,
-            keys,
-        } = place;
-        let mut line = self.heading(None)?;
-        let site = self.number.number();
-        let count = members.count();
-        let federation = members.federation();
-        write!(
-            line,
-            "serves site {site} of {count}, federation {federation}, {}, ",
-            ShownPlace(address)
-        )?;
-        let kept = records.len();
-        let known = records.iter().filter(|it| is_known(it)).count();
-        write!(line, "{kept} records, {known} known")?;
-        if let Some(bytes) = buffer {
-            push_buffer(&mut line, bytes)?;
-        }
-        if let Some((sites, clients)) = keys {
-            write!(line, ", keys {sites:08x} {clients:08x}")?;
-        }
-        Ok(line)
-    }
-
-    // `why: WORDS`
-    fn why_line(&self, why: &str) -> Result<String, AllocError> {
-        let mut line = self.heading(None)?;
-        write!(line, "why: {why}")?;
-        Ok(line)
-    }
-
-    // The line that the site has written, and after `refused` what was asked for; where a whole
-    // batch was refused, also how many other datagrams it had.
-    fn line_of(&self, state: &State) -> Result<String, AllocError> {
-        let Subject { heard, others } = state.heard.subject();
-        let mut line = self.heading(from_of(heard))?;
-        line.push_str(state.begun.as_str())?;
-        if state.begun.as_str().starts_with("refused") {
-            self.push_request(&mut line, state, heard)?;
-            if others > 0 {
-                write!(line, " and {others} more")?;
-            }
-        }
-        Ok(line)
-    }
-
-    // `unread S CODE`, the request, and the place.
-    fn unread_line(
-        &self,
-        state: &State,
-        fault: TreeFault,
-        place: Option<&str>,
-    ) -> Result<String, AllocError> {
-        let heard = state.heard.deposit();
-        let mut line = self.heading(from_of(heard))?;
-        let site = self.number.number();
-        let code = 20 + u32::from(fault.number());
-        write!(line, "unread {site} {code}")?;
-        self.push_request(&mut line, state, heard)?;
-        if let Some(place) = place {
-            push_word(&mut line, place)?;
-        }
-        Ok(line)
-    }
-
-    fn push_request(
-        &self,
-        line: &mut String,
-        state: &State,
-        heard: Option<&Heard>,
-    ) -> Result<(), AllocError> {
-        let (Some(place), Some(heard)) = (state.place, heard) else {
-            return Ok(());
+    // Notes a line, unless there was no memory for it; before it how many couldn't be written, if some
+    // couldn't.
+    fn append(&self, state: &mut State, line: Result<String, AllocError>) {
+        let lost = state.file.lost();
+        let text = if lost > 0 {
+            self.after_lost(lost, line)
+        } else {
+            line
         };
-        let federation = place.members.federation();
-        let request = request_text(self.rt.alloc(), federation, heard.bytes.as_slice())?;
-        if request.is_empty() {
-            return Ok(());
-        }
-        line.push(' ')?;
-        line.push_str(request.as_str())
-    }
-
-    // The time, and the address from which came what the line is about; `-` where nothing came.
-    fn heading(&self, from: Option<Address>) -> Result<String, AllocError> {
-        let alloc = self.rt.alloc();
-        let moment = moment_text(alloc, self.rt)?;
-        match from {
-            Some(address) => format!(in alloc; "{moment} {} ", At(address)),
-            None => format!(in alloc; "{moment} - "),
+        if let Ok(mut text) = text {
+            if text.push('\n').is_ok() {
+                state.file.append(self.rt, text.as_str());
+            }
         }
     }
-}
 
-// Notes a line, unless there was no memory for it.
-fn append(rt: &HostRuntime, state: &mut State, line: Result<String, AllocError>) {
-    if let Ok(mut line) = line {
-        if line.push('\n').is_ok() {
-            state.file.append(rt, line.as_str());
-        }
+    fn after_lost(
+        &self,
+        lost: u32,
+        line: Result<String, AllocError>,
+    ) -> Result<String, AllocError> {
+        let mut text = self.lines().lost(lost)?;
+        text.push('\n')?;
+        text.push_str(line?.as_str())?;
+        Ok(text)
     }
-}
-
-// From where it came; from nowhere in an idle turn.
-fn from_of(heard: Option<&Heard>) -> Option<Address> {
-    match heard {
-        Some(heard) => heard.from,
-        None => None,
-    }
-}
-
-fn is_known(record: &Record) -> bool {
-    matches!(record.body, Entry::Known(_))
-}
-
-// How many bytes of datagrams the system keeps, and where that is less than was asked for, the
-// command that raises its limit.
-fn push_buffer(line: &mut String, bytes: u32) -> Result<(), AllocError> {
-    write!(line, ", buffer {bytes}")?;
-    if bytes < WANTED_BUFFER {
-        write!(
-            line,
-            " (for more: sysctl net.core.rmem_max={WANTED_BUFFER})"
-        )?;
-    }
-    Ok(())
 }

@@ -26,7 +26,8 @@ const KNOWN: u8 = 7;
 /// a deposit: with the first a spell begins, which ends once a majority was heard since, or, unless
 /// it was said, with a Known. Where neither comes within ten seconds, it is said, once; and in the
 /// end that a majority is heard again. What comes from a member's address is heard of that member; the
-/// site itself counts, by its weight.
+/// site itself counts, by its weight. No spell begins with a batch that has a Known: what is handed
+/// out may be about a version that it names.
 #[derive(Drop)]
 pub struct Watch<'a> {
     rt: &'a HostRuntime,
@@ -38,7 +39,15 @@ pub struct Watch<'a> {
     log: Option<&'a SiteLog<'a>>,
     /// Whether standard error has it.
     speaks: bool,
-    spell: RefCell<Option<Spell>>,
+    heard: RefCell<Heard>,
+}
+
+/// What was heard so far.
+#[derive(Clone, Copy)]
+struct Heard {
+    spell: Option<Spell>,
+    /// Whether the batch has a Known of another site.
+    has_known: bool,
 }
 
 /// A site that asks, and hears no majority.
@@ -70,15 +79,29 @@ impl<'a> Watch<'a> {
             addresses,
             log,
             speaks,
-            spell: RefCell::new(None),
+            heard: RefCell::new(Heard {
+                spell: None,
+                has_known: false,
+            }),
         }
     }
 
-    /// The turn brings this.
-    pub(crate) fn came(&self, turn: &Turn) {
-        if let Ok(mut place) = self.spell.try_borrow_mut() {
-            if let Some(spell) = *place {
-                *place = self.after(spell, turn);
+    /// The site waited, and this came: its next batch begins with it.
+    pub(crate) fn begins_with(&self, turn: &Turn) {
+        if let Ok(mut heard) = self.heard.try_borrow_mut() {
+            heard.has_known = false;
+        }
+        self.takes_in(turn);
+    }
+
+    /// The site takes this in besides.
+    pub(crate) fn takes_in(&self, turn: &Turn) {
+        if let Ok(mut heard) = self.heard.try_borrow_mut() {
+            if self.is_known(turn) {
+                heard.has_known = true;
+            }
+            if let Some(spell) = heard.spell {
+                heard.spell = self.after(spell, turn);
             }
         }
     }
@@ -88,9 +111,9 @@ impl<'a> Watch<'a> {
         if kind_byte(bytes) != PREPARE {
             return;
         }
-        if let Ok(mut place) = self.spell.try_borrow_mut() {
-            if place.is_none() {
-                *place = self.beginning();
+        if let Ok(mut heard) = self.heard.try_borrow_mut() {
+            if heard.spell.is_none() && !heard.has_known {
+                heard.spell = self.beginning();
             }
         }
     }
@@ -133,6 +156,14 @@ impl<'a> Watch<'a> {
             spell.is_said = true;
         }
         Some(spell)
+    }
+
+    // Whether a Known of another site's came.
+    fn is_known(&self, turn: &Turn) -> bool {
+        match said(turn) {
+            Some((from, bytes)) => kind_byte(bytes) == KNOWN && self.member_at(from).is_some(),
+            None => false,
+        }
     }
 
     // The site that has this address.

@@ -28,13 +28,13 @@ impl<P: Port> Port for WatchedPort<'_, P> {
 
     fn receive(&mut self) -> Result<Turn, PortFault> {
         let turn = self.port.receive()?;
-        self.watch.came(&turn);
+        self.watch.begins_with(&turn);
         Ok(turn)
     }
 
     fn try_receive(&mut self) -> Option<Turn> {
         let turn = self.port.try_receive()?;
-        self.watch.came(&turn);
+        self.watch.takes_in(&turn);
         Some(turn)
     }
 
