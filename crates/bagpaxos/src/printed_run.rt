@@ -1,5 +1,6 @@
 //! The command `run`: a schedule from standard input or from a file.
 
+use crate::picture_file::{PictureFault, write_picture};
 use crate::run_arguments::RunTask;
 use crate::run_on::run_on;
 use crate::schedule_fault::say_schedule_fault;
@@ -126,7 +127,7 @@ fn run_bytes(rt: &HostRuntime, task: &RunTask<'_>, bytes: &[u8]) -> Result<u8, P
     let status = run_on(rt.alloc(), &mut rest, &mut io::writer(rt), task.options)?;
     if status != 0 {
         if task.words {
-            say_schedule_fault(rt, bytes);
+            say_schedule_fault(rt, task.file, bytes);
         }
         return Ok(status);
     }
@@ -178,24 +179,37 @@ fn draw(rt: &HostRuntime, task: &RunTask<'_>, story: &Story, path: &str) -> Resu
         let _ = eprintln!(rt; "error: {name} is there and is no picture; give another path");
         return Ok(1);
     }
-    match fs::write(rt, path, picture.as_str()) {
+    match write_picture(rt, path, picture.as_str())? {
         Ok(()) => {
-            if has_other_ending(path) {
-                let mut name = String::new(rt.alloc());
-                push_name(&mut name, path)?;
-                let _ = eprintln!(rt;
-                    "note: {name} has a picture in SVG; end the name in .svg, or in .html for a page"
-                );
-            }
+            note_ending(rt, path)?;
             Ok(0)
         }
-        Err(error) => {
+        Err(PictureFault { error, is_old_kept }) => {
             let mut name = String::new(rt.alloc());
             push_name(&mut name, path)?;
-            let _ = eprintln!(rt; "error: the picture can't be written to {name}: {error}");
+            let _ = if is_old_kept {
+                eprintln!(rt;
+                    "error: the picture can't be written to {name}: {error}; the old one stays"
+                )
+            } else {
+                eprintln!(rt; "error: the picture can't be written to {name}: {error}")
+            };
             Ok(1)
         }
     }
+}
+
+// Says that it is a picture, where a file's name says something else, or nothing.
+fn note_ending(rt: &HostRuntime, path: &str) -> Result<(), AllocError> {
+    if !has_other_ending(path) || !is_file(rt, path) {
+        return Ok(());
+    }
+    let mut name = String::new(rt.alloc());
+    push_name(&mut name, path)?;
+    let _ = eprintln!(rt;
+        "note: {name} has a picture in SVG; end the name in .svg, or in .html for a page"
+    );
+    Ok(())
 }
 
 // Whether something is there that a picture can't replace, as a pipe, whose open would wait for its
@@ -210,23 +224,23 @@ fn is_no_file(rt: &HostRuntime, path: &str) -> bool {
     }
 }
 
-// Whether the name of a picture ends as if it were one of another kind, or a page.
+// Whether the name of a picture ends in neither `.svg` nor `.html`.
 fn has_other_ending(path: &str) -> bool {
-    match path.rsplit_once('.') {
-        Some((_, ending)) => {
-            let is_ending = !ending.is_empty() && !ending.contains('/');
-            is_ending && ending != "svg" && ending != "html"
-        }
-        None => false,
+    !path.ends_with(".svg") && !path.ends_with(".html")
+}
+
+fn is_file(rt: &HostRuntime, path: &str) -> bool {
+    match fs::metadata(rt, path) {
+        Ok(found) => found.is_file(),
+        Err(_) => false,
     }
 }
 
 // Whether a file is there that isn't empty and doesn't begin as a picture or a page does: it may be
 // the schedule, or anything else that a slip of the hand named.
 fn is_of_another_kind(rt: &HostRuntime, path: &str) -> bool {
-    match fs::metadata(rt, path) {
-        Ok(found) if found.is_file() => {}
-        _ => return false,
+    if !is_file(rt, path) {
+        return false;
     }
     let mut front = [0u8; 5];
     let Ok(mut file) = File::open(rt, path) else {

@@ -105,7 +105,7 @@ fn deed(event: &Event) -> &'static str {
         Deed::Query => "asked$u: ",
         Deed::Raw => "foreign bytes: ",
         Deed::Start => "starts, $c on record",
-        Deed::Stop | Deed::Tree | Deed::Deliver => "",
+        Deed::Stop | Deed::Tree | Deed::Folder | Deed::File | Deed::Deliver => "",
     }
 }
 

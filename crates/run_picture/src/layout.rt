@@ -167,7 +167,7 @@ impl Layout {
 // Whether an event has a row: it happened at a site, or a datagram came while the site was down.
 fn is_drawn(event: &Event) -> bool {
     match (event.deed, event.outcome) {
-        (Deed::Tree, _) => false,
+        (Deed::Tree | Deed::Folder | Deed::File, _) => false,
         (Deed::Deliver, Outcome::Skipped(Reason::Down)) => true,
         (_, Outcome::Skipped(_)) => false,
         _ => true,

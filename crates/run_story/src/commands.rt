@@ -6,7 +6,9 @@ use schedule::{DeviceCall, Fate};
 /// What it asks for.
 pub(crate) fn command(event: &Event) -> &'static str {
     match event.deed {
-        Deed::Tree => "line $l, tree",
+        Deed::Tree => "line $l, tree $n",
+        Deed::Folder => "line $l, folder $n",
+        Deed::File => "line $l, file $n $p",
         Deed::Deposit => "line $l, deposit $s $n$a",
         Deed::Propose => "line $l, propose $s$a",
         Deed::Recover => "line $l, recover $s$a",

@@ -5,8 +5,12 @@ use schedule::Fate;
 /// What a command asks for. A turn of a pump is a delivery.
 #[derive(Clone, Copy)]
 pub enum Deed {
-    /// A tree is declared, or gets its payload folder or a file.
+    /// A tree is declared.
     Tree,
+    /// A tree gets its payload folder.
+    Folder,
+    /// A tree gets a file.
+    File,
     Deposit,
     Propose,
     Recover,
@@ -53,9 +57,11 @@ pub struct Event {
     /// The number of the schedule's line, counted from 1.
     pub line: usize,
     pub deed: Deed,
-    /// The number of the datagram that is delivered, of the tree that is deposited, or of the site
-    /// that is asked.
+    /// The number of the datagram that is delivered, of the tree that is declared, filled or
+    /// deposited, or of the site that is asked.
     pub number: usize,
+    /// The place of its path among those of the story, if it adds a file.
+    pub path: Option<usize>,
     /// What befell the call.
     pub fate: Fate,
     /// The site where it happened, 0 where that is none.
@@ -80,6 +86,11 @@ pub struct Event {
 }
 
 impl Event {
+    /// It only makes a tree, and no site has part in it.
+    pub fn is_of_tree(&self) -> bool {
+        matches!(self.deed, Deed::Tree | Deed::Folder | Deed::File)
+    }
+
     /// The site did what it was called to do.
     pub fn is_done(&self) -> bool {
         matches!(self.outcome, Outcome::Done | Outcome::Learned)

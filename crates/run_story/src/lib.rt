@@ -18,6 +18,7 @@ mod datagram;
 mod event;
 mod notes;
 mod outcomes;
+mod paths;
 mod planned;
 mod run_text;
 mod said_numbers;

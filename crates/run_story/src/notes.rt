@@ -24,6 +24,8 @@ pub(crate) struct Notes {
     passages: Vec<Passage>,
     // The slots in the order in which they came first, each with its place.
     slots: ListedRows<usize>,
+    // The paths of the files that were to be added.
+    paths: Vec<String>,
     // How many records each site has, site 1 first.
     records: Vec<usize>,
     // Whether each site needs opening, since its device has failed.
@@ -57,6 +59,7 @@ impl Notes {
             datagrams: Datagrams::new(alloc),
             passages: Vec::new(alloc),
             slots: ListedRows::new(alloc),
+            paths: Vec::new(alloc),
             records,
             unopened,
             events: Vec::new(alloc),
@@ -71,6 +74,7 @@ impl Notes {
             datagrams,
             passages,
             slots,
+            paths,
             events,
             ..
         } = self;
@@ -81,6 +85,7 @@ impl Notes {
             passages,
             datagrams,
             slots,
+            paths,
         }
     }
 
@@ -96,6 +101,13 @@ impl Notes {
         }
         let place = self.slots.slots().len();
         self.slots.put(slot, place)?;
+        Ok(place)
+    }
+
+    /// The place of the path of a file that is to be added.
+    pub(crate) fn path_place(&mut self, path: &str) -> Result<usize, AllocError> {
+        let place = self.paths.len();
+        self.paths.push(String::from_str(self.alloc, path)?)?;
         Ok(place)
     }
 

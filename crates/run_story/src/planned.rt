@@ -2,7 +2,7 @@
 
 use crate::event::{Deed, Event, Outcome};
 use fed_types::Slot;
-use schedule::{Call, Command, Fate};
+use schedule::{Call, Command, Fate, TreeNo};
 
 /// The event of a command that is no pump, on the line of this number, as far as the command says.
 pub(crate) fn event_of(line: usize, command: &Command) -> Event {
@@ -12,8 +12,17 @@ pub(crate) fn event_of(line: usize, command: &Command) -> Event {
         Command::Raw { site, .. } => event_at(line, Deed::Raw, *site),
         Command::Stop { site } => event_at(line, Deed::Stop, *site),
         Command::Start { site } => event_at(line, Deed::Start, *site),
-        _ => event_at(line, Deed::Tree, 0),
+        Command::Tree { tree } => event_of_tree(line, Deed::Tree, *tree),
+        Command::Folder { tree } => event_of_tree(line, Deed::Folder, *tree),
+        Command::File { tree, .. } => event_of_tree(line, Deed::File, *tree),
+        Command::Pump { .. } => event_at(line, Deed::Deliver, 0),
     }
+}
+
+fn event_of_tree(line: usize, deed: Deed, tree: TreeNo) -> Event {
+    let mut event = event_at(line, deed, 0);
+    event.number = tree.number() as usize;
+    event
 }
 
 fn event_of_call(line: usize, call: &Call, fate: Fate) -> Event {
@@ -36,6 +45,7 @@ pub(crate) fn event_at(line: usize, deed: Deed, site: u8) -> Event {
         line,
         deed,
         number: 0,
+        path: None,
         fate: Fate::Whole,
         site,
         slot: None,

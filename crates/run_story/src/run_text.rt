@@ -3,7 +3,7 @@
 use crate::arrivals::{consequence, heard};
 use crate::commands::{command, fate};
 use crate::datagram::Datagram;
-use crate::event::{Deed, Event, Outcome};
+use crate::event::{Event, Outcome};
 use crate::outcomes::{interruption, kept, outcome};
 use crate::scene::Scene;
 use crate::sends::push_sends;
@@ -44,10 +44,7 @@ fn push_heading(text: &mut String, story: &Story) -> Result<(), AllocError> {
 /// Whether words are made of an event: of a tree that is declared or filled only if a line is
 /// printed.
 pub fn is_told(event: &Event) -> bool {
-    match event.deed {
-        Deed::Tree => event.said.is_some(),
-        _ => true,
-    }
+    !event.is_of_tree() || event.said.is_some()
 }
 
 /// Appends the words of the event at a place, in one line, without its end.
@@ -68,7 +65,7 @@ pub fn push_event(
 fn push_what(text: &mut String, scene: &Scene<'_>) -> Result<(), AllocError> {
     let event = scene.event;
     match (event.outcome, scene.story.delivered(event)) {
-        (Outcome::Skipped(reason), _) => scene.say(text, skip(event, reason)),
+        (Outcome::Skipped(reason), _) => scene.say(text, skip(scene, reason)),
         (_, Some(datagram)) => push_arrival(text, scene, datagram),
         (_, None) => push_all(text, scene, &[outcome(scene), stop(event), kept(event)]),
     }

@@ -3,7 +3,7 @@
 //! - of an event: `l` its line, `s` its site, `n` its number, `k` the number in its fate, `a` its
 //!   slot, after a space, `u` the same where the story has several, `d` how many datagrams had been
 //!   sent before, `z` how many it sent, `c` with how many records a site starts, `e` why one
-//!   refused, `x` the ballot for which it refuses;
+//!   refused, `x` the ballot for which it refuses, `p` the path of the file that it adds;
 //! - of its record: `R` the round, `B` the ballot; and `t` the tree of what it or the line names;
 //! - of a datagram: `o` its slot, after a space, where the story has several, `f` the site that it
 //!   comes from, `b` its ballot, `v` the other ballot that it names, `r` the round of that, `g` the
@@ -70,6 +70,7 @@ impl Scene<'_> {
             'a' | 'o' | 'u' => self.push_slot(text, letter),
             'b' | 'v' | 'w' | 'x' | 'B' => push_ballot(text, self.ballot(letter)),
             'e' => self.push_fault(text),
+            'p' => push_escaped(text, self.path()),
             _ => push_number(text, self.number(letter)),
         }
     }
@@ -101,6 +102,14 @@ impl Scene<'_> {
             'g' => datagram.tree as usize,
             'r' => round_of(datagram.other),
             _ => 0,
+        }
+    }
+
+    /// The path of the file that the event adds, empty if it adds none.
+    pub(crate) fn path(&self) -> &str {
+        match self.event.path {
+            Some(place) => self.story.path(place),
+            None => "",
         }
     }
 

@@ -1,14 +1,17 @@
 //! Events that couldn't apply.
 
 use crate::event::{Deed, Event};
+use crate::paths::path_fault;
+use crate::scene::Scene;
 use lines::Reason;
 
 /// Why an event couldn't apply.
-pub(crate) fn skip(event: &Event, reason: Reason) -> &'static str {
+pub(crate) fn skip(scene: &Scene<'_>, reason: Reason) -> &'static str {
+    let event = scene.event;
     match reason {
         Reason::Site => "there is no such site: the sites are 1 to $m",
         Reason::Tree => tree(event),
-        Reason::Path => "the tree can have no such file",
+        Reason::Path => path_fault(scene.path()),
         Reason::Datagram => unsent(event),
         Reason::Formed => "the bytes are a message, which only a site can send",
         Reason::Down => down(event),
@@ -18,8 +21,8 @@ pub(crate) fn skip(event: &Event, reason: Reason) -> &'static str {
 
 fn tree(event: &Event) -> &'static str {
     match event.deed {
-        Deed::Deposit => "tree $n isn't declared",
-        _ => "the tree is declared already, or isn't declared",
+        Deed::Tree => "tree $n is declared already",
+        _ => "tree $n isn't declared",
     }
 }
 

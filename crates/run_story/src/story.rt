@@ -37,6 +37,8 @@ pub struct Story {
     pub passages: Vec<Passage>,
     pub(crate) datagrams: Datagrams<Datagram>,
     pub(crate) slots: ListedRows<usize>,
+    // The paths of the files that were to be added, in their order.
+    pub(crate) paths: Vec<String>,
 }
 
 impl Story {
@@ -48,6 +50,14 @@ impl Story {
     /// The versions that it is about, in the order in which they came first.
     pub fn versions(&self) -> &[Slot] {
         self.slots.slots()
+    }
+
+    // The path at this place, empty if there is none.
+    pub(crate) fn path(&self, place: usize) -> &str {
+        match self.paths.get(place) {
+            Some(path) => path.as_str(),
+            None => "",
+        }
     }
 
     /// How many were sent.

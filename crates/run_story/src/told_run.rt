@@ -34,6 +34,9 @@ fn run_line(
             if let Some(slot) = slot_in(command) {
                 event.slot = Some(notes.slot_place(slot)?);
             }
+            if let Command::File { path, .. } = command {
+                event.path = Some(notes.path_place(path.as_str())?);
+            }
             run_event(federation, notes, event, line)
         }
     }
