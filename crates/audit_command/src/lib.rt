@@ -1,7 +1,7 @@
 //! The command `audit`: what the cells of several sites show together.
 //!
 //! ```
-//! Ok(Some(Task::Audit(task))) => exit_of(hinted(rt, task.words, print_audit(rt, &task))),
+//! Task::Audit(task) => hinted(rt, task.words, print_audit(rt, &task)),
 //! ```
 #![tactic(auto)]
 

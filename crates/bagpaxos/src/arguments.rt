@@ -77,6 +77,7 @@ fn matches_of<'a>(alloc: Global, words: &'a [String]) -> Result<ArgMatches<'a>, 
 // What clap doesn't see of a mistake.
 fn mistake_in(alloc: Global, task: &Option<Task>) -> Result<Option<String>, AllocError> {
     match task {
+        Some(Task::Check(check)) => text_of(alloc, check.mistake()),
         Some(Task::Send(send)) => text_of(alloc, send.mistake()),
         Some(Task::Site(site)) => site.mistake(alloc),
         Some(Task::Members(members)) => members.mistake(alloc),

@@ -44,7 +44,9 @@ pub fn say_unreadable(rt: &HostRuntime) -> Result<(), AllocError> {
         if str::from_utf8(word).is_err() {
             let mut text = String::new(rt.alloc());
             push_escaped_bytes(&mut text, word)?;
-            let _ = eprintln!(rt; "it is argument {number}: {text}");
+            let _ = eprintln!(rt;
+                "it is argument {number}: {text}\nrename it; of folders, check --from0 - reads such a name"
+            );
             return Ok(());
         }
     }
@@ -83,11 +85,12 @@ fn say(rt: &HostRuntime, words: &[String], error: &Error) -> Result<(), AllocErr
         return Err(AllocError);
     }
     let said = format!(in rt.alloc(); "{error}")?;
-    let said = match slip_text(rt.alloc(), said.as_str(), words)? {
+    let usage = usage_in(words);
+    let said = match slip_text(rt.alloc(), said.as_str(), words, usage)? {
         Some(slip) => slip,
         None => said,
     };
-    let text = mistake_text(rt.alloc(), said.as_str(), usage_in(words))?;
+    let text = mistake_text(rt.alloc(), said.as_str(), usage)?;
     let _ = rt.eprint(text.as_str());
     Ok(())
 }

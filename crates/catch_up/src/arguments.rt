@@ -10,12 +10,13 @@ const ABOUT: &str = "Asks a site for all that others know, until it knows that t
 
 const EXAMPLE: &str = "Each file is a cell, which may be in use and is never changed, or a list that
 `ledger` printed; `-` is standard input, and a file may be a pipe, as that of
-`<(..)` in a shell. The site is asked for each version for which one of them
-knows a bag. It asks the other sites for what it doesn't know. So it is asked
-again, after pauses of 2 ms to a second, until it knows all, or until --for
-seconds have passed. Once it is asked each second, the sites recover what is
-left, one after the other: so it learns even what no running site knows, if one
-has voted for it. For each known bag of each file it prints
+`<(..)` in a shell. A cell may be of any federation: it is taken as a list of
+the bags that it knows. The site is asked for each version for which one of the
+files knows a bag. It asks the other sites for what it doesn't know. So it is
+asked again, after pauses of 2 ms to a second, until it knows all, or until
+--for seconds have passed. Once it is asked each second, the sites recover what
+is left, one after the other: so it learns even what no running site knows, if
+one has voted for it. For each known bag of each file it prints
   known OBJ V HEX       the site knows the bag that the file knows
   other OBJ V HEX HEX   it knows the first, and the file knows the second
   open OBJ V            it didn't know the version when time was over

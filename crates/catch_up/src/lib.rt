@@ -1,7 +1,7 @@
 //! The command `catch-up`: a site that was down learns what others know.
 //!
 //! ```
-//! Ok(Some(Task::CatchUp(task))) => exit_of(hinted(rt, task.words, catch_up_site(rt, &task))),
+//! Task::CatchUp(task) => hinted(rt, task.words, catch_up_site(rt, &task)),
 //! ```
 #![tactic(auto)]
 

@@ -3,10 +3,9 @@
 
 use crate::arguments::CatchUpTask;
 use code_words::{meaning_of_line, push_name};
-use file_words::{LineSpeaker, first_piped, push_file_words, push_gone, say_text};
+use file_words::{LineSpeaker, first_piped, push_empty, push_file_words, push_gone, say_text};
 use known_bags::{DiskSources, push_source};
 use std::alloc::AllocError;
-use std::fs;
 
 /// What says the lines of versions.
 #[derive(Clone, Copy)]
@@ -55,20 +54,7 @@ impl<'a> VersionSpeaker<'a> {
     // Appends that there was nothing to ask for.
     fn push_none(&self, text: &mut String) -> Result<(), AllocError> {
         text.push_str("no file knows a bag, so nobody was asked")?;
-        for path in self.files {
-            // `-` isn't the file of that name.
-            if *path == "-" {
-                continue;
-            }
-            if let Ok(found) = fs::metadata(self.rt, path) {
-                if found.is_file() && found.len() == 0 {
-                    text.push_str("; ")?;
-                    push_name(text, path)?;
-                    text.push_str(" is empty")?;
-                }
-            }
-        }
-        Ok(())
+        push_empty(self.rt, text, self.files)
     }
 
     // Appends what a line says of the first file that can't be used, if one can't. What came

@@ -2,7 +2,7 @@
 //! the other, and a line says of each what came of it.
 //!
 //! ```
-//! Ok(Some(Task::Deposits(task))) => exit_of(hinted(rt, task.words, send_deposits(rt, &task))),
+//! Task::Deposits(task) => hinted(rt, task.words, send_deposits(rt, &task)),
 //! ```
 #![tactic(auto)]
 

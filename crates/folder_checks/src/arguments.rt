@@ -138,6 +138,20 @@ pub struct CheckTask<'a> {
 }
 
 impl CheckTask<'_> {
+    /// What is wrong with the arguments and clap doesn't see: an option of `--registered` without
+    /// it. What conflicts with `--registered` lifts its being required.
+    pub fn mistake(&self) -> Option<&'static str> {
+        if self.registered.is_some() {
+            None
+        } else if self.deposits {
+            Some("--deposits needs --registered <FILE>")
+        } else if self.versions {
+            Some("--versions needs --registered <FILE>")
+        } else {
+            None
+        }
+    }
+
     /// What is reported of each folder.
     pub fn report(&self) -> Report {
         Report {

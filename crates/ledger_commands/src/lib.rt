@@ -1,8 +1,8 @@
 //! The commands `journal` and `ledger`: what a cell says, read without a lock, and never changed.
 //!
 //! ```
-//! Ok(Some(Task::Journal(task))) => exit_of(hinted(rt, task.words, print_journal(rt, &task))),
-//! Ok(Some(Task::Ledger(task))) => exit_of(hinted(rt, task.words, print_ledger(rt, &task))),
+//! Task::Journal(task) => hinted(rt, task.words, print_journal(rt, &task)),
+//! Task::Ledger(task) => hinted(rt, task.words, print_ledger(rt, &task)),
 //! ```
 #![tactic(auto)]
 

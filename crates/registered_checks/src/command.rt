@@ -8,7 +8,7 @@ use crate::list_speaker::ListSpeaker;
 use crate::said_checks::Says;
 use bag_folders::Folders;
 use counted_writes::CountedWriter;
-use file_words::SpokenLines;
+use file_words::{SpokenLines, push_empty, say_text};
 use folder_checks::{CheckTask, spoken_folders, watched_folders};
 use known_bags::DiskSources;
 use outcomes::ProgramFault;
@@ -60,7 +60,7 @@ fn check_to<F: Folders + Says + Drop, W: Write + Drop>(
 {
     let output = &mut CountedWriter::new(output);
     let errors = &mut CountedWriter::new(rt.stderr());
-    check_registered_on(
+    let status = check_registered_on(
         rt.alloc(),
         task,
         &DiskSources { rt },
@@ -68,5 +68,16 @@ fn check_to<F: Folders + Says + Drop, W: Write + Drop>(
         folders,
         output,
         errors,
-    )
+    )?;
+    if task.words {
+        say_text(rt, empty_words(rt, list));
+    }
+    Ok(status)
+}
+
+// What is said of the list where it is empty, so that no bag is registered.
+fn empty_words(rt: &HostRuntime, list: &str) -> Result<String, AllocError> {
+    let mut text = String::new(rt.alloc());
+    push_empty(rt, &mut text, &[list])?;
+    Ok(text)
 }

@@ -1,7 +1,7 @@
 //! The command `status`: how the sites of a federation stand.
 //!
 //! ```
-//! Ok(Some(Task::Status(task))) => exit_of(hinted(rt, task.words, show_status(rt, &task))),
+//! Task::Status(task) => hinted(rt, task.words, show_status(rt, &task)),
 //! ```
 #![tactic(auto)]
 

@@ -4,7 +4,7 @@ use crate::arguments::StatusTask;
 use crate::files::push_file;
 use code_words::{meaning_of_line, push_name};
 use file_words::{
-    LineSpeaker, first_piped, push_file_words, push_gone, push_source_name, say_text,
+    LineSpeaker, first_piped, push_empty, push_file_words, push_gone, push_source_name, say_text,
 };
 use site_commands::members_at;
 use std::alloc::AllocError;
@@ -64,7 +64,7 @@ impl<'a> StandingSpeaker<'a> {
             ] => {
                 self.push_up(&mut text, site, pending, alone, lacks)?;
             }
-            ["federation", ..] => {}
+            ["federation", ..] => push_empty(self.rt, &mut text, self.files)?,
             ["memory"] => self.push_code(&mut text, line)?,
             ["open", "1"] => self.push_foreign(&mut text, line)?,
             ["open", "4"] => self.push_unread(&mut text, line)?,
