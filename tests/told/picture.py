@@ -23,6 +23,8 @@ WIDTHS = {260: "|", 275: "'", 278: "ijl", 295: "I", 318: " ,.\u00b7", 333: "-", 
           770: "D", 778: "G", 780: "&", 787: "OQ", 818: "w", 838: "#+<=>~", 863: "M", 950: "%",
           974: "m", 989: "W", 1000: "\u2026", 1015: "@"}
 WIDTHS = {it: wide for wide, letters in WIDTHS.items() for it in letters}
+# So far apart are columns, at least; and so wide is the margin where a datagram breaks off in it.
+SPACING = 250
 # Sites are named again after about so many rows' height; and so far from any row, at least.
 SCREENFUL, ASIDE = 25 * 26, 18
 MARKS = {
@@ -302,6 +304,8 @@ class Picture:
         same("sites", list(self.columns), list(range(1, len(self.run.weights) + 1)))
         columns = list(self.columns.values())
         claim(columns == sorted(set(columns)), f"columns from left to right: {columns}")
+        near = [it for it in zip(columns, columns[1:]) if it[1] - it[0] < SPACING]
+        claim(not near, f"columns that are too near: {near}")
         for y, sites in heights.items():
             same(f"the sites named at {y}", sites, list(self.columns))
         self.names = sorted(heights)
@@ -577,6 +581,8 @@ class Picture:
                   default=self.wide)
         claim(NEAR < abs(beside) < gap, f"{what}: it breaks off at {x}")
         claim((beside < 0) == (sent.to < sent.sender), f"{what}: it breaks off at {x}")
+        is_outside = x > max(self.columns.values())
+        claim(not is_outside or way.begin[0] + SPACING <= self.wide, f"{what}: at the margin")
         later = min((it for it in self.rows.values() if it > way.begin[1]), default=self.end)
         claim(way.begin[1] < y < later, f"{what}: it breaks off in row {y}")
 

@@ -38,6 +38,8 @@ class Event:
         # failed device had kept; the tree that the record or the line names.
         self.made = self.record = None
         self.tree = self.bag_said = 0
+        # The command of a tree, and the path of the file that it adds, in bytes.
+        self.fills, self.path = None, None
         # What it delivered; how much was heard of that, and the highest vote's ballot.
         self.delivered, self.count = None, None
 
@@ -91,7 +93,10 @@ class Run:
         if word in WITH_FATES and rest[-3:-2] in (["stop"], ["fail"]):
             rest, fate = rest[:-3], (rest[-3], int(rest[-2]), int(rest[-1]))
         if word in ("tree", "folder", "file"):
-            return Event(line, "tree")
+            event = Event(line, "tree", int(rest[0]))
+            event.fills = word
+            event.path = urllib.parse.unquote_to_bytes(rest[1]) if word == "file" else None
+            return event
         numbers = [int(it) for it in rest[:2] if it.isdigit()]
         slot = None
         if word in ("deposit", "propose", "recover", "ask", "query"):

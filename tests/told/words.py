@@ -2,6 +2,9 @@
 stands here once more; what is said, each number, site, ballot, bag, kind and count, is that of the
 rules. No test of itself."""
 
+from bags import MOST_PARTS
+from rules import escaped
+
 # Why a site refuses, and why a tree is no valid bag.
 REFUSALS = {
     11: "another bag was deposited",
@@ -62,6 +65,9 @@ class Words:
         return text + self.sends(event) + "\n" + (f"    {event.said}\n" if event.said else "")
 
     def command(self, event):
+        if event.deed == "tree":
+            path = [] if event.path is None else [escaped(event.path)]
+            return " ".join([event.fills, str(event.number), *path])
         parts = [event.deed]
         parts += [str(event.site)] if event.deed not in ("tree", "deliver") else []
         parts += [str(event.number)] if event.deed in ("deposit", "ask", "deliver") else []
@@ -111,12 +117,12 @@ class Words:
     def skipped(self, event, reason):
         before = event.sent_before
         sent = {0: "no datagram was sent yet", 1: "only one datagram was sent so far"}
-        tree = "the tree is declared already, or isn't declared"
+        has = "is declared already" if event.fills == "tree" else "isn't declared"
         lost = f", and #{event.number} is lost" if event.deed == "deliver" else ""
         return {
             "site": f"there is no such site: the sites are 1 to {len(self.run.weights)}",
-            "tree": f"tree {event.number} isn't declared" if event.deed == "deposit" else tree,
-            "path": "the tree can have no such file",
+            "tree": f"tree {event.number} {has}",
+            "path": why_no_path((event.path or b"").decode()),
             "datagram": sent.get(before, f"only {before} datagrams were sent so far"),
             "formed": "the bytes are a message, which only a site can send",
             "down": f"site {event.site} is down{lost}",
@@ -229,6 +235,20 @@ class Words:
         return [it.number for it in self.run.datagrams]
 
 
+def why_no_path(path):
+    """Why a tree can have no file of this path."""
+    parts = path.split("/")
+    for part, why in (("..", "a path has no .."), (".", "a path has no part ."),
+                      ("", "a path has no empty part, and neither begins nor ends with a slash")):
+        if part in parts:
+            return why
+    if path == "data":
+        return "data is the payload's folder"
+    if len(parts) > MOST_PARTS:
+        return f"a path has at most {MOST_PARTS} parts"
+    return "the tree has a file or a folder there, or a file in place of one of its folders"
+
+
 def listed(numbers):
     return "".join(f" #{it}" for it in numbers) or " none"
 
@@ -239,7 +259,7 @@ PIECES = [
     r"A quorum has \d+ of all weight, which is \d+\.",
     *(rf": {it}\n" for it in (
         r"there is no such site: the sites are 1 to \d+", r"tree \d+ isn't declared",
-        r"the tree is declared already, or isn't declared", r"the tree can have no such file",
+        r"tree \d+ is declared already", r"data is the payload's folder",
         r"no datagram was sent yet", r"only \d+ datagrams were sent so far",
         r"the bytes are a message, which only a site can send", r"site \d+ is down",
         r"site \d+ is down, and #\d+ is lost", r"site \d+ is up already",
