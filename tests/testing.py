@@ -67,6 +67,25 @@ def can_trace(count):
     return False
 
 
+def nobody_in(room):
+    """How a program is run that has no rights but those of all, in this room; None where it can't
+    be."""
+    if os.geteuid() != 0:
+        return {}
+    how, top = {"user": 65534, "group": 65534}, tempfile.gettempdir()
+    for folder in (room, *room.parents):
+        is_ours = str(folder).startswith(top) and folder != pathlib.Path(top)
+        if folder.stat().st_mode & 0o005 != 0o005 and is_ours:
+            folder.chmod(0o755)
+    try:
+        if subprocess.run([PROGRAM, "--version"], capture_output=True, **how).returncode == 0:
+            return how
+    except PermissionError:
+        pass
+    print("skipped files without rights: the program can't be run as nobody")
+    return None
+
+
 def in_rooms(*parts):
     """Runs each part in an empty folder of its own."""
     for part in parts:

@@ -10,3 +10,4 @@ pub mod KeptVersions
 pub mod GivenVotes
 pub mod Answered
 pub mod NoRecords
+pub mod Copies

@@ -13,7 +13,7 @@ use Rattle.audit.proofs.Shown.{shown_is_chosen}
 use Rattle.world_law.proofs.Reports.{chosen_from, reported_from}
 
 -- events, and more
-run_on : (q : QuorumSystem) (events later : List Event) (w : Network)
+pub run_on : (q : QuorumSystem) (events later : List Event) (w : Network)
     → run q (run q w events) later ≡ run q w (events ++ later)
 unfolding run
 run_on q [] later w = refl

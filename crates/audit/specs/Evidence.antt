@@ -1,5 +1,5 @@
 -- The records of the cells that an auditor was given, as a network.
-use Rattle.std.specs.Prelude.{ℕ, ◌==◌, if◌then◌else◌, List, [], Option, Some, None, filter_map}
+use Rattle.std.specs.Prelude.{ℕ, ◌==◌, if◌then◌else◌, List, [], Option, Some, None, map, filter_map}
 use Rattle.fed_types.specs.Lists.{Has}
 use Rattle.records.specs.declared.record.Record.{Record}
 use Rattle.world_law.specs.Networks.{Network, Down}
@@ -27,3 +27,13 @@ network_of given = record {
 -- what a site has now or had before, or parts of it
 abbrev pub AreOf : Network → List SiteRecord → Type 0
 AreOf w given = (s : SiteRecord) → Has s given → Has s.kept (w.sites s.site).records
+
+-- ---- what an auditor may be given
+
+-- a site's cell that has these records, as it is given
+abbrev pub cell_of : (site : ℕ) → List Record → List SiteRecord
+cell_of site records = map (λ r. record { site = site; kept = r }) records
+
+-- a part of what is given
+abbrev pub IsPartOf : (part given : List SiteRecord) → Type 0
+IsPartOf part given = (s : SiteRecord) → Has s part → Has s given

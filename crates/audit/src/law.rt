@@ -1,4 +1,4 @@
-ghost use Rattle.std.specs.Prelude.{◌≡◌, ◌≢◌, ◌++◌, ◌↔◌, List};
+ghost use Rattle.std.specs.Prelude.{◌≡◌, ◌≢◌, ◌++◌, ◌↔◌, ℕ, List};
 ghost use Rattle.fed_types.specs.declared.bag_id.BagId.{BagId};
 ghost use Rattle.fed_types.specs.declared.vote.Vote.{Vote};
 ghost use Rattle.fed_types.specs.Quorums.{QuorumSystem, AreQuorums, IsQuorum};
@@ -7,13 +7,29 @@ ghost use Rattle.world_law.specs.Laws.{IsChosen, IsChosenBy, notices_of};
 ghost use Rattle.world_law.specs.Networks.{Network, Event, new_network, run};
 ghost use Rattle.audit.specs.declared.finding.Finding.{Finding};
 ghost use Rattle.audit.specs.declared.finding.Finding.TheVariants as findings;
-ghost use Rattle.audit.specs.Evidence.{SiteRecord, network_of, AreOf};
+ghost use Rattle.audit.specs.Evidence.{SiteRecord, network_of, AreOf, cell_of, IsPartOf};
 ghost use Rattle.audit.specs.Findings.{IsFinding, members_with};
 ghost use Rattle.audit.specs.Laws.{ReportNoOther};
 ghost use Rattle.audit.specs.Laws.{ShowChosen, IsNamed, NameTwo, HaveNoConflict};
 
 // A function here does nothing: its contract is the law. The cells are any of a federation's, of
 // as few sites as one likes, each as it is or as it once was.
+
+/// A site's cell may be given as it is; it may be given in part, and together with others.
+pub fn cells_may_be_given_in_part()
+    ensures whole { (w : Network) (n : ℕ) → AreOf w (cell_of n (w.sites n).records) }
+    ensures part { (w : Network) (given part : List SiteRecord) → AreOf w given
+        → IsPartOf part given → AreOf w part }
+    ensures together { (w : Network) (some more : List SiteRecord) → AreOf w some → AreOf w more
+        → AreOf w (some ++ more) }
+{}
+
+/// And it may be given as it once was, in an older copy.
+pub fn older_copies_may_be_given()
+    ensures { (q : QuorumSystem) (events later : List Event) (given : List SiteRecord)
+        → AreQuorums q → AreOf (run q new_network events) given
+        → AreOf (run q new_network (events ++ later)) given }
+{}
 
 /// What they show as chosen is chosen.
 pub fn what_cells_show_is_chosen()

@@ -16,6 +16,6 @@ mod votes;
 pub use cells::Cells;
 pub use finding::Finding;
 pub use law::{
-    cells_have_no_conflict, chosen_is_all_that_is_reported, findings_are_true, members_are_counted,
-    what_cells_show_is_chosen,
+    cells_have_no_conflict, cells_may_be_given_in_part, chosen_is_all_that_is_reported,
+    findings_are_true, members_are_counted, older_copies_may_be_given, what_cells_show_is_chosen,
 };

@@ -1,8 +1,8 @@
-ghost use Rattle.std.specs.Prelude.{◌≡◌, ◌≢◌, true, false, IfOk, IfErr, IfSome, string_bytes};
+ghost use Rattle.std.specs.Prelude.{◌≡◌, ◌≢◌, true, false, IfOk, IfErr, string_bytes};
 ghost use Rattle.bag_tree.specs.Algorithms.{no_algorithms};
 ghost use Rattle.bag_tree.specs.Path.{is_read_text};
 ghost use Rattle.bag_check.specs.Check.{first_fault};
-ghost use Rattle.bag_folders.specs.Disk.{IsFactBy, HasNoDigests, NeedsNoDigest, shows, is_shown};
+ghost use Rattle.bag_folders.specs.Disk.{IsFactBy, HasNoDigests, shows, is_shown};
 ghost use Rattle.bag_folders.specs.Folders.{IsWalkFault};
 
 use crate::failure::Failure;
@@ -15,26 +15,8 @@ use bag_tree::{Algorithms, Digests, Facts, FileFacts, LONGEST_TEXT, TreeFault, i
 use std::alloc::{AllocError, Global};
 use std::fs::Files;
 
-/// The facts of a bag's folder without any digest, if the texts that describe the bag and the list
-/// of its files show a fault. Only these texts are read.
-pub(crate) fn faulty_facts<R: Files + AllocGlobal + Clone + Drop>(
-    alloc: Global,
-    bag: &mut OpenBag<'_, R>,
-    listing: &FolderListing,
-) -> Result<Option<Facts>, Failure>
-    ensures needed { IfOk result (λ found. IfSome found NeedsNoDigest) }
-    ensures faults { IfErr result (λ failure. IsWalkFault failure.fault) }
-{
-    let facts = bare_facts(alloc, bag, listing, &mut Silent)?;
-    if shows_fault(alloc, &facts)? {
-        Ok(Some(facts))
-    } else {
-        Ok(None)
-    }
-}
-
 /// Whether the first fault shows in the texts and in the list of the files.
-fn shows_fault(alloc: Global, facts: &Facts) -> Result<bool, AllocError>
+pub(crate) fn shows_fault(alloc: Global, facts: &Facts) -> Result<bool, AllocError>
     ensures { IfOk result (λ found. found ≡ is_shown (first_fault facts.now)) }
 {
     match check(alloc, facts) {

@@ -3,7 +3,7 @@ ghost use Rattle.bag_folders.specs.Folders.{IsWalkFault};
 
 use crate::failure::Failure;
 use crate::look::{EntryKind, Look};
-use crate::open_bag::OpenBag;
+use crate::open_bag::{BagPlace, OpenBag};
 use bag_tree::{DEEPEST_PATH, MOST_FILES, PAYLOAD_FOLDER, TreeFault, part_count};
 use std::alloc::{AllocError, Global};
 use std::fs::Files;
@@ -69,11 +69,12 @@ impl FolderListing {
     /// Takes the entries of the subfolder `below` of the bag.
     fn list<R: Files + AllocGlobal + Clone + Drop>(
         &mut self,
-        bag: &OpenBag<'_, R>,
+        bag: &mut OpenBag<'_, R>,
         below: &str,
     ) -> Result<(), Failure>
         ensures { IfErr result (λ failure. IsWalkFault failure.fault) }
     {
+        let place = bag.place();
         let folder = match bag.folder_below(below) {
             Ok(folder) => folder,
             Err(error) => return Err(unlisted(self.alloc, below, &error)?),
@@ -83,7 +84,7 @@ impl FolderListing {
         'turns: for _ in 0..MOST_FILES + 3 {
             match folder.next_names(&mut buffer) {
                 Ok(names) if names.is_empty() => return Ok(()),
-                Ok(names) => self.take_names(bag, names, below)?,
+                Ok(names) => self.take_names(&place, names, below)?,
                 Err(error) => return Err(unlisted(self.alloc, below, &error)?),
             }
         }
@@ -93,7 +94,7 @@ impl FolderListing {
     /// Takes the entries of these names, each of which is followed by a NUL.
     fn take_names<R: Files + AllocGlobal + Clone + Drop>(
         &mut self,
-        bag: &OpenBag<'_, R>,
+        place: &BagPlace<'_, R>,
         names: &[u8],
         below: &str,
     ) -> Result<(), Failure>
@@ -101,7 +102,7 @@ impl FolderListing {
     {
         for name in names.split(|byte| *byte == 0) {
             if !matches!(name, b"" | b"." | b"..") {
-                self.take(bag, name, below)?;
+                self.take(place, name, below)?;
             }
         }
         Ok(())
@@ -110,7 +111,7 @@ impl FolderListing {
     /// Takes one entry: keeps a file, and has a folder wait.
     fn take<R: Files + AllocGlobal + Clone + Drop>(
         &mut self,
-        bag: &OpenBag<'_, R>,
+        place: &BagPlace<'_, R>,
         name: &[u8],
         below: &str,
     ) -> Result<(), Failure>
@@ -128,7 +129,7 @@ impl FolderListing {
         if part_count(path.as_bytes()) > DEEPEST_PATH {
             return Err(Failure::at(path, TreeFault::TooDeep));
         }
-        match bag.look(path.as_str()) {
+        match place.look(path.as_str()) {
             Ok(look) => self.keep(path, look),
             Err(error) => Err(Failure::at(path, fault_of(&error, TreeFault::Listing))),
         }
@@ -152,7 +153,7 @@ impl FolderListing {
 /// All files in the bag's folder and below it.
 pub(crate) fn list_bag<R: Files + AllocGlobal + Clone + Drop>(
     alloc: Global,
-    bag: &OpenBag<'_, R>,
+    bag: &mut OpenBag<'_, R>,
 ) -> Result<FolderListing, Failure>
     ensures { IfErr result (λ failure. IsWalkFault failure.fault) }
 {
@@ -162,7 +163,7 @@ pub(crate) fn list_bag<R: Files + AllocGlobal + Clone + Drop>(
 /// The same, if there are no more files and folders than this, which is `MOST_FILES` at most.
 pub(crate) fn list_at_most<R: Files + AllocGlobal + Clone + Drop>(
     alloc: Global,
-    bag: &OpenBag<'_, R>,
+    bag: &mut OpenBag<'_, R>,
     most: usize,
 ) -> Result<FolderListing, Failure>
     ensures { IfErr result (λ failure. IsWalkFault failure.fault) }

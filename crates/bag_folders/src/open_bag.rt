@@ -2,11 +2,29 @@ ghost use Rattle.std.specs.Prelude.{IfErr};
 ghost use Rattle.bag_folders.specs.Folders.{IsWalkFault};
 
 use crate::folder_listing::{ListedFile, fault_of, joined};
+use crate::folder_way::FolderWay;
 use crate::look::Look;
 use crate::open_folder::OpenFolder;
 use bag_tree::TreeFault;
 use std::fs::{Files, OpenFile};
 use std::{fs, io};
+
+/// Where a bag's folder is, whatever is open of it.
+#[derive(Drop)]
+pub(crate) struct BagPlace<'a, R: Files + AllocGlobal + Clone + Drop> {
+    rt: &'a R,
+    /// Its path, which may be a link.
+    path: &'a str,
+}
+
+impl<R: Files + AllocGlobal + Clone + Drop> BagPlace<'_, R> {
+    /// What the entry at this path below it is. A link is taken as the link itself. A folder on the
+    /// way may have been exchanged for one: what is opened is looked at again.
+    pub(crate) fn look(&self, path: &str) -> io::Result<Look> {
+        let path = joined(self.rt.alloc(), self.path, path)?;
+        Ok(Look::of(&fs::symlink_metadata(self.rt, path.as_str())?))
+    }
+}
 
 /// A bag's folder, which is open.
 #[derive(Drop)]
@@ -14,14 +32,11 @@ pub(crate) struct OpenBag<'a, R: Files + AllocGlobal + Clone + Drop> {
     rt: &'a R,
     /// Its path, which may be a link.
     path: &'a str,
-    folder: OpenFolder,
-    /// Whether the system shows what is open as files, so that a file is looked up in its open
-    /// folder, whatever that folder's path leads to by now. Else it is opened by its path.
+    /// Whether the system shows what is open as files, so that a file is opened in its open folder,
+    /// whatever that folder's path leads to by now. Else it is opened by its path.
     shows_open: bool,
-    /// The folder of the last file, and its path below the bag's. The files of a folder are listed
-    /// one after the other.
-    last: OpenFolder,
-    last_below: String,
+    /// The way to the folder of the last file. The files of a folder are listed one after the other.
+    way: FolderWay,
 }
 
 impl<'a, R: Files + AllocGlobal + Clone + Drop> OpenBag<'a, R> {
@@ -31,27 +46,25 @@ impl<'a, R: Files + AllocGlobal + Clone + Drop> OpenBag<'a, R> {
         let number = folder.number();
         let shown = format!(in rt.alloc(); "/proc/self/fd/{number}")?;
         let shows_open = fs::metadata(rt, shown.as_str()).is_ok();
-        let last = folder.below("")?;
         Ok(OpenBag {
             rt,
             path,
-            folder,
             shows_open,
-            last,
-            last_below: String::new(rt.alloc()),
+            way: FolderWay::new(rt.alloc(), folder),
         })
     }
 
-    /// The folder at this path below it.
-    pub(crate) fn folder_below(&self, path: &str) -> io::Result<OpenFolder> {
-        self.folder.below(path)
+    /// Where it is.
+    pub(crate) fn place(&self) -> BagPlace<'a, R> {
+        BagPlace {
+            rt: self.rt,
+            path: self.path,
+        }
     }
 
-    /// What the entry at this path below it is; a link is taken as the link itself. A folder on the
-    /// way may have been exchanged for one: what is opened is looked at again.
-    pub(crate) fn look(&self, path: &str) -> io::Result<Look> {
-        let path = joined(self.rt.alloc(), self.path, path)?;
-        Ok(Look::of(&fs::symlink_metadata(self.rt, path.as_str())?))
+    /// The folder at this path below it.
+    pub(crate) fn folder_below(&mut self, path: &str) -> io::Result<&OpenFolder> {
+        self.way.lead_to(path)
     }
 
     /// Opens a file that was listed. The refusals are `Device`, if it can't be opened or isn't the
@@ -68,33 +81,26 @@ impl<'a, R: Files + AllocGlobal + Clone + Drop> OpenBag<'a, R> {
 
     /// The file that was listed, if it is still there.
     fn open_same(&mut self, listed: &ListedFile) -> io::Result<Option<R::File>> {
-        let path = self.path_to_open(listed.path.as_str())?;
-        let found = fs::symlink_metadata(self.rt, path.as_str())?;
+        let path = listed.path.as_str();
+        let (below, name) = path.rsplit_once('/').unwrap_or(("", path));
+        let shown = if self.shows_open {
+            let number = self.way.lead_to(below)?.number();
+            format!(in self.rt.alloc(); "/proc/self/fd/{number}/{name}")?
+        } else {
+            joined(self.rt.alloc(), self.path, path)?
+        };
+        let found = fs::symlink_metadata(self.rt, shown.as_str())?;
         if !Look::of(&found).is_same_file(&listed.look) {
             return Ok(None);
         }
         // A pipe that takes its place right now is waited for: the toolchain's library has no way
         // to open a file without waiting.
-        let file = fs::open(self.rt, path.as_str())?;
+        let file = fs::open(self.rt, shown.as_str())?;
         let opened = file.metadata()?;
         if Look::of(&opened).is_same_file(&listed.look) {
             Ok(Some(file))
         } else {
             Ok(None)
         }
-    }
-
-    /// The path by which the file at this path below the bag's folder is opened.
-    fn path_to_open(&mut self, path: &str) -> io::Result<String> {
-        if !self.shows_open {
-            return Ok(joined(self.rt.alloc(), self.path, path)?);
-        }
-        let (below, name) = path.rsplit_once('/').unwrap_or(("", path));
-        if below != self.last_below.as_str() {
-            self.last = self.folder.below(below)?;
-            self.last_below = String::from_str(self.rt.alloc(), below)?;
-        }
-        let number = self.last.number();
-        Ok(format!(in self.rt.alloc(); "/proc/self/fd/{number}/{name}")?)
     }
 }

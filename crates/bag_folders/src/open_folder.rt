@@ -19,15 +19,9 @@ impl OpenFolder {
         opened(libc::AT_FDCWD, followed.as_str())
     }
 
-    /// The folder at this path below it. No part of the path may be a link.
-    pub(crate) fn below(&self, path: &str) -> io::Result<OpenFolder> {
-        let mut folder = opened(self.number(), ".")?;
-        if !path.is_empty() {
-            for part in path.split('/') {
-                folder = opened(folder.number(), part)?;
-            }
-        }
-        Ok(folder)
+    /// The folder of this name in it, which may not be a link.
+    pub(crate) fn enter(&self, name: &str) -> io::Result<OpenFolder> {
+        opened(self.number(), name)
     }
 
     /// Puts the names of its next entries into the buffer, each followed by a NUL, and says how

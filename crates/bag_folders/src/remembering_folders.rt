@@ -137,7 +137,7 @@ fn read_or_recall<R: Files + Clock + AllocGlobal + Clone + Drop>(
 {
     let alloc = rt.alloc();
     let mut bag = open_bag(rt, path)?;
-    let listing = list_within(alloc, &bag, most_bytes)?;
+    let listing = list_within(alloc, &mut bag, most_bytes)?;
     if let Some(now) = now {
         let files = ListSum::of(&listing);
         if let Some(facts) = recalled(alloc, refusals.of(files, now.moment))? {

@@ -1,16 +1,18 @@
 ghost use Rattle.std.specs.Prelude.{◌≡◌, IfOk, IfErr, map, string_bytes};
 ghost use Rattle.bag_check.specs.Named.{named_of};
 ghost use Rattle.bag_folders.specs.Disk.{HasNamedDigests, HasNeededDigests, HasNoDigests};
+ghost use Rattle.bag_folders.specs.Disk.{IsFactBy};
 ghost use Rattle.bag_folders.specs.Folders.{IsWalkFault};
 
 use crate::failure::Failure;
-use crate::first_look::{bare_facts, faulty_facts};
+use crate::first_look::{bare_facts, shows_fault};
 use crate::folder_listing::{FolderListing, ListedFile, list_bag, too_many, unlisted};
 use crate::hash_listed::hash_listed;
 use crate::open_bag::OpenBag;
+use crate::read_texts::ReadTexts;
 use crate::watcher::{Silent, Watcher};
 use bag_check::named_by;
-use bag_tree::{Algorithms, Facts, TreeFault, is_text_named};
+use bag_tree::{Algorithms, Facts, FileFacts, TreeFault, is_read_text, is_text_named};
 use std::alloc::Global;
 use std::fs::Files;
 
@@ -60,7 +62,7 @@ pub(crate) fn read_watched<R: Files + AllocGlobal + Clone + Drop, W: Watcher>(
     ensures faults { IfErr result (λ failure. IsWalkFault failure.fault) }
 {
     let mut bag = open_bag(rt, folder)?;
-    let listing = list_bag(rt.alloc(), &bag)?;
+    let listing = list_bag(rt.alloc(), &mut bag)?;
     read_listed(rt.alloc(), &mut bag, listing, reading, watcher)
 }
 
@@ -75,7 +77,7 @@ pub(crate) fn read_bare<R: Files + AllocGlobal + Clone + Drop, W: Watcher>(
     ensures faults { IfErr result (λ failure. IsWalkFault failure.fault) }
 {
     let mut bag = open_bag(rt, folder)?;
-    let listing = list_bag(rt.alloc(), &bag)?;
+    let listing = list_bag(rt.alloc(), &mut bag)?;
     watcher.listed(listing.files.len() as u64, listing.bytes());
     bare_facts(rt.alloc(), &mut bag, &listing, watcher)
 }
@@ -96,7 +98,7 @@ pub(crate) fn open_bag<'a, R: Files + AllocGlobal + Clone + Drop>(
 /// All files in the folder. If they have more bytes together it is `TooMany`.
 pub(crate) fn list_within<R: Files + AllocGlobal + Clone + Drop>(
     alloc: Global,
-    bag: &OpenBag<'_, R>,
+    bag: &mut OpenBag<'_, R>,
     most_bytes: u64,
 ) -> Result<FolderListing, Failure>
     ensures { IfErr result (λ failure. IsWalkFault failure.fault) }
@@ -120,19 +122,23 @@ pub(crate) fn read_listed<R: Files + AllocGlobal + Clone + Drop, W: Watcher>(
     ensures faults { IfErr result (λ failure. IsWalkFault failure.fault) }
 {
     watcher.listed(listing.files.len() as u64, listing.bytes());
-    if reading == Reading::Needed {
-        if let Some(facts) = faulty_facts(alloc, bag, &listing)? {
-            return Ok(facts);
-        }
+    if reading == Reading::All {
+        return named_facts(alloc, bag, listing, ReadTexts::none(alloc), watcher);
     }
-    named_facts(alloc, bag, listing, watcher)
+    let facts = bare_facts(alloc, bag, &listing, &mut Silent)?;
+    if shows_fault(alloc, &facts)? {
+        return Ok(facts);
+    }
+    let texts = ReadTexts::of(alloc, facts)?;
+    named_facts(alloc, bag, listing, texts, watcher)
 }
 
-/// The facts of all files that were listed.
+/// The facts of all files that were listed, of which these texts were read before.
 fn named_facts<R: Files + AllocGlobal + Clone + Drop, W: Watcher>(
     alloc: Global,
     bag: &mut OpenBag<'_, R>,
     listing: FolderListing,
+    texts: ReadTexts,
     watcher: &mut W,
 ) -> Result<Facts, Failure>
     ensures digests { IfOk result HasNamedDigests }
@@ -140,15 +146,40 @@ fn named_facts<R: Files + AllocGlobal + Clone + Drop, W: Watcher>(
 {
     let wanted = named_by_files(listing.files.as_slice());
     let of_texts = named_by_tag_manifests(listing.files.as_slice());
+    let mut texts = texts;
     let mut files = Vec::with_capacity(alloc, listing.files.len())?;
     let payload = listing.payload;
     for file in listing.files {
-        files.push(hash_listed(alloc, bag, &file, wanted, watcher)?)?;
+        files.push(named_fact(alloc, bag, &file, wanted, &mut texts, watcher)?)?;
     }
     let mut facts = Facts::new(files, payload);
     // Each of these is asked for as often as a tag manifest lists the text.
     facts.compute_digests(of_texts);
     Ok(facts)
+}
+
+/// The facts of a file that was listed. A text that was read before isn't read again.
+fn named_fact<R: Files + AllocGlobal + Clone + Drop, W: Watcher>(
+    alloc: Global,
+    bag: &mut OpenBag<'_, R>,
+    listed: &ListedFile,
+    wanted: Algorithms,
+    texts: &mut ReadTexts,
+    watcher: &mut W,
+) -> Result<FileFacts, Failure>
+    ensures digests { IfOk result (λ facts. IsFactBy wanted (string_bytes listed.now.path) facts) }
+    ensures faults { IfErr result (λ failure. IsWalkFault failure.fault) }
+{
+    let path = listed.path.as_str();
+    if !is_read_text(path.as_bytes()) {
+        return hash_listed(alloc, bag, listed, wanted, watcher);
+    }
+    let Some(bytes) = texts.take(path) else {
+        return hash_listed(alloc, bag, listed, wanted, watcher);
+    };
+    watcher.hashed(bytes.len() as u64);
+    watcher.file_done();
+    Ok(FileFacts::kept(String::from_str(alloc, path)?, wanted, bytes))
 }
 
 /// The algorithms that the manifests among these files name.

@@ -18,10 +18,10 @@ pub(crate) fn weight_of<R: Files + AllocGlobal + Clone + Drop>(
 ) -> Option<u64>
     ensures { IfSome result (λ bytes. bytes ≤ most) }
 {
-    let Ok(bag) = open_bag(rt, path) else {
+    let Ok(mut bag) = open_bag(rt, path) else {
         return None;
     };
-    let Ok(listing) = list_at_most(rt.alloc(), &bag, MOST_WEIGHED) else {
+    let Ok(listing) = list_at_most(rt.alloc(), &mut bag, MOST_WEIGHED) else {
         return None;
     };
     let bytes = listing.bytes();

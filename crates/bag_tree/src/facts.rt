@@ -37,6 +37,13 @@ impl Facts {
         self.files.as_slice()
     }
 
+    /// The facts of each file, in the tree's order, without the rest.
+    pub fn into_files(self) -> Vec<FileFacts>
+        ensures { result.items ≡ self.files }
+    {
+        self.files
+    }
+
     /// Computes now the wanted digests, by these algorithms, of the texts that describe the bag.
     /// Without this each is computed whenever it is asked for. No clause sees the difference.
     pub fn compute_digests(&mut self, by: Algorithms)

@@ -130,6 +130,17 @@ impl FileFacts {
         }
     }
 
+    /// The file's bytes, moved, if it is one of the texts that describe a bag.
+    pub fn into_text(self) -> Option<Vec<u8>>
+        ensures { option_map (λ bytes. bytes.items) result ≡ self.text }
+    {
+        let FileFacts { contents, .. } = self;
+        match contents {
+            Contents::Text(text) => Some(text.into_bytes()),
+            Contents::Hashed(_) => None,
+        }
+    }
+
     /// The SHA-512 of the file's bytes, if it is one of the texts that describe a bag.
     pub fn sha512_of_text(&self) -> Option<[u8; 64]>
         ensures { result ≡ option_map sha512 self.now.text }

@@ -52,6 +52,12 @@ impl KeptText {
         self.bytes.as_slice()
     }
 
+    pub(crate) fn into_bytes(self) -> Vec<u8>
+        ensures { result.items ≡ self.bytes }
+    {
+        self.bytes
+    }
+
     /// Computes those wanted digests that are by one of these algorithms.
     pub(crate) fn compute_digests(&mut self, by: Algorithms)
         ensures { self.new ≡ self.old }

@@ -7,7 +7,7 @@ use bag_tree::is_payload;
 use code_words::push_name;
 use std::alloc::AllocError;
 use std::fs::{self, File};
-use std::io::Read;
+use std::io::{ErrorKind, Read};
 
 const LABEL: &str = "payload-oxum:";
 
@@ -54,6 +54,7 @@ fn info_of(bag: &Bag<'_, '_>) -> Result<Vec<u8>, AllocError> {
     for _ in 0..MOST_PIECES {
         match file.read(&mut piece) {
             Ok(count) if count > 0 => bytes.extend_from_slice(&piece[..count])?,
+            Err(error) if error.kind() == ErrorKind::Interrupted => {}
             _ => break,
         }
     }

@@ -1,7 +1,7 @@
 //! How files begin and are called, and what the first bytes of one are.
 
 use std::fs::File;
-use std::io::Read;
+use std::io::{ErrorKind, Read};
 
 /// What a cell begins with.
 pub const CELL_START: &[u8] = b"BPJ";
@@ -28,6 +28,7 @@ pub fn first_bytes(rt: &HostRuntime, path: &str) -> Vec<u8> {
                         break;
                     }
                 }
+                Err(error) if error.kind() == ErrorKind::Interrupted => {}
                 _ => break,
             }
         }

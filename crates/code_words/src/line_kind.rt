@@ -22,7 +22,7 @@ pub(crate) fn kind_of_line(line: &str) -> Option<FileKind> {
         "federation" => Some(FileKind::Schedule),
         "sites" | "clients" if !second.is_empty() => Some(FileKind::Key),
         "known" | "pending" | "voted" if !fourth.is_empty() => Some(FileKind::Ledger),
-        "open" if is_number(third) && fourth.is_empty() => Some(FileKind::Ledger),
+        "asked" if is_number(third) && fourth.is_empty() => Some(FileKind::Ledger),
         _ if is_command(first) => None,
         _ if is_number(second) && is_path(third) && fourth.is_empty() => Some(FileKind::Deposits),
         _ => None,

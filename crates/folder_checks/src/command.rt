@@ -159,9 +159,9 @@ fn check_given(rt: &HostRuntime, task: &CheckTask<'_>) -> Result<u8, ProgramFaul
         Ok(folders) => {
             let mut folders = spoken_folders(rt, task, folders);
             let paths = task.paths.as_slice();
-            let status = check_all_on(rt.alloc(), &mut folders, paths, task.report(), &mut output)?;
+            let answer = check_all_on(rt.alloc(), &mut folders, paths, task.report(), &mut output);
             folders.say();
-            Ok(status)
+            answer
         }
         Err(AllocError) => write_output(&mut output, 1, "memory\n"),
     }

@@ -50,6 +50,7 @@ use Rattle.process_law.specs.Processes.{text_last, IsOf, IsAccountOf, after_acco
 use Rattle.process_law.specs.Processes.{turns_in, posts_in, text_in, AccountsGoOn}
 use Rattle.process_law.specs.Processes.{ProcessesHaveAccounts}
 use Rattle.process_law.proofs.Decoded.{decoded}
+use Rattle.process_law.proofs.HandedOut.{tells_all}
 use Rattle.process_law.proofs.Stands.{Stands, same_left, stands_first, stands_again, stands_next}
 use Rattle.process_law.proofs.Takes.{take_both, all_within}
 use Rattle.process_law.proofs.Told.{Rest, said_so, ended, renews, turns_told, all_told}
@@ -345,12 +346,19 @@ accounts_go_on members m (h ∷ first) next is then_is =
 module _ {C : Type 0} (device : C → Device) (members : Membership) (only_now : OnlyNow device)
   where
     pub processes_have_accounts : ProcessesHaveAccounts device members
-    processes_have_accounts n addresses gives cell before now records left tells reads come = (
-      account device members come.membership only_now tells n (its come.member) addresses gives cell
-          before now records left reads come,
-      is_account device members come.membership only_now tells n (its come.member) addresses gives
-          cell before now records left reads come,
-    )
+    processes_have_accounts n addresses gives cell before now records left tells reads come =
+        let is =
+        is_account device members come.membership only_now tells n (its come.member) addresses gives
+        cell before now records left reads come in (
+          account device members come.membership only_now tells n (its come.member) addresses gives
+              cell before now records left reads come,
+          is,
+          tells_all device (turn_of no_cell addresses gives) (owner_of device members n) cell before
+              now left come
+              (account device members come.membership only_now tells n (its come.member) addresses
+              gives cell before now records left reads come)
+              is.posts is.text,
+        )
       where
         its : is_in (members_of members) n ≡ true → Has n (members_of members)
         its is = (is_in_decides (members_of members) n).0 is

@@ -137,26 +137,26 @@ module _ (members : Membership) (is_membership : IsMembership members) (slot : S
 
   -- ---- the site
 
-  abbrev opened : OpenSite Disk
+  abbrev pub opened : OpenSite Disk
   opened = record {
     book = holds its [];
     tables = deaths.its_tables members is_membership slot bag;
   }
 
-  abbrev site : List Record → OpenSite Waiting
+  abbrev pub site : List Record → OpenSite Waiting
   site records = record {
     book = book_of its records;
     tables = deaths.its_tables members is_membership slot bag;
   }
 
-  abbrev held : List Record → (synced : ℕ) → BatchCell Disk
+  abbrev pub held : List Record → (synced : ℕ) → BatchCell Disk
   held records synced = record {
     cell = Holds its records;
     synced = synced;
     needs_opening = false;
   }
 
-  abbrev start : Batching Disk
+  abbrev pub start : Batching Disk
   start = begins_with (site []) (held [] 0) new_volatile
 
   abbrev end : Batching Disk
@@ -171,7 +171,7 @@ module _ (members : Membership) (is_membership : IsMembership members) (slot : S
       (record { used = refl; floor = refl; begun = refl; current = tt; waiting = refl })
       refl (λ none vote n. refl)
 
-  parted : IsParted opened (site []) (held [] 0)
+  pub parted : IsParted opened (site []) (held [] 0)
   parted = record {
     records = refl;
     owner = refl;

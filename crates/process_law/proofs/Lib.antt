@@ -5,3 +5,4 @@ pub mod Told
 pub mod Accounts
 pub mod Reached
 pub mod Deposited
+pub mod HandedOut

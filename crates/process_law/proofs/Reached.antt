@@ -48,7 +48,7 @@ CountsNow {C} device =
     (cell : C) (t : ℕ) (bytes : List ℕ) → t ≤ (device cell).moment
     → MayLeave (device cell).image bytes → (device cell).left_since t bytes
 
-none_handed : (came : List Taken) → handed_by (map Took came) ≡ []
+pub none_handed : (came : List Taken) → handed_by (map Took came) ≡ []
 none_handed [] = refl
 none_handed (taken ∷ came) = none_handed came
 
@@ -58,7 +58,7 @@ all_posts posts =
     take_map Handed (length posts) posts
     ∙ ap (λ (ps : List Post). map Handed ps) (take-length posts)
 
-first_handed : (count : ℕ) (posts : List Post)
+pub first_handed : (count : ℕ) (posts : List Post)
     → take count (all_handed posts) ≡ all_handed (take count posts)
 unfolding all_handed
 first_handed count posts = take_map Handed count posts

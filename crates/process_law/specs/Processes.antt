@@ -147,6 +147,18 @@ abbrev pub whole_batches : {C : Type 0} {device : C → Device} {rule : Rule Wai
     → HasCome device rule owner cell before now left → List Batch
 whole_batches come = all_batches come.calls ++ come.batches
 
+-- all moves at its port since it began, and all that it has written
+abbrev pub moves_since : {C : Type 0} {device : C → Device} {rule : Rule Waiting} {owner : Owner}
+    {cell : C} {before now : Outside} {left : List Record}
+    → HasCome device rule owner cell before now left → List Move
+moves_since come = flat_map moves_of (whole_batches come) ++ last_moves come.last
+
+abbrev pub text_since : {C : Type 0} {device : C → Device} {rule : Rule Waiting} {owner : Owner}
+    {cell : C} {before now : Outside} {left : List Record}
+    → HasCome device rule owner cell before now left → List ℕ
+text_since come =
+    flat_map (λ batch. text_of_all batch.turns) (whole_batches come) ++ last_text come.last
+
 -- ---- its account
 
 -- the turns of an account, in order
@@ -187,6 +199,24 @@ abbrev pub text_last : Last → List ℕ
 text_last (Quiet moves) = []
 text_last (Unsynced batch refused said) = []
 text_last (Synced batch handed written) = take written (text_of_all batch.turns)
+
+-- what no account has: where a sync failed, what is told of that
+abbrev pub posts_refused : Last → List Post
+posts_refused (Quiet moves) = []
+posts_refused (Unsynced batch refused said) = refused
+posts_refused (Synced batch handed written) = []
+
+abbrev pub text_refused : Last → List ℕ
+text_refused (Quiet moves) = []
+text_refused (Unsynced batch refused said) = said
+text_refused (Synced batch handed written) = []
+
+-- Whatever a process has handed out by these moves, and whatever it has written, this text, its
+-- account hands out and writes, in this order; but for what is told of a sync that failed.
+pub record TellsAll {C : Type 0} (moves : List Move) (text : List ℕ) (last : Last)
+    (account : List (Happening C)) : Type 0 where
+  pub handed : handed_by moves ≡ posts_in account ++ posts_refused last
+  pub written : text ≡ text_in account ++ text_refused last
 
 -- what the member is after an account
 unfoldable pub after_account : {C : Type 0} → Member C → List (Happening C) → Member C
@@ -250,7 +280,8 @@ module _ {C : Type 0} (device : C → Device) (members : Membership) where
       × (come.opened ≡ process.opened) × (come.calls ≡ process.served.calls)
 
   -- Let a cell say these records, as its member was left; and a process come so far over it, and
-  -- end then or be killed. That is an account of the member, of this process.
+  -- end then or be killed. That is an account of the member, of this process, and tells all that
+  -- the process does.
   abbrev pub ProcessesHaveAccounts : Type 0
   ProcessesHaveAccounts =
       (n : ℕ) (addresses : List ℕ) (gives : Option (List ℕ → Result TreeFacts TreeFault))
@@ -261,3 +292,4 @@ module _ {C : Type 0} (device : C → Device) (members : Membership) where
       before now left)
       → (account : List (Happening Disk))
       × IsAccountOf members n addresses gives records left (whole_batches come) come.last account
+      × TellsAll (moves_since come) (text_since come) come.last account

@@ -17,5 +17,6 @@ pub mod TwoProposals
 pub mod Arriving
 pub mod ThreeSites
 pub mod TwoOfThree
+pub mod OtherVersions
 pub mod InTurn
 pub mod OfTwo

@@ -7,7 +7,9 @@
 mod examples;
 mod law;
 
-pub use examples::{a_ballot_may_be_undisturbed, a_ballot_of_two_may_be_undisturbed};
+pub use examples::{
+    a_ballot_may_be_undisturbed, a_ballot_of_two_may_be_undisturbed, others_disturb_no_ballot,
+};
 pub use law::{
     a_decision_is_within_reach, an_undisturbed_ballot_is_decided, an_undisturbed_proposal_outbids,
     each_deposit_has_its_turn, each_of_two_has_its_turn, no_decision_without_a_vote_or_a_deposit,

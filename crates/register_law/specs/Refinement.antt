@@ -56,3 +56,11 @@ module _ {C : Type 0} (device : C → Device) (members : Membership) where
   HistoriesRefine =
       (events : List Event) (history : List (Happening C)) → IsMembership members
       → IsHistoryAfter device members events history → Refines events history
+
+  -- Where a happening is such a step, what it reports is what was decided before it.
+  abbrev pub StepsReportWhatWasDecided : Type 0
+  StepsReportWhatWasDecided =
+      (events : List Event) (before : List (Happening C)) (h : Happening C) (slot : SlotName)
+      (bag : BagId)
+      → Steps members events before h → Reports members.federation h slot bag
+      → Keeps members (now members events before) slot (Decided bag)

@@ -5,7 +5,7 @@ ghost use Rattle.register_law.specs.Laws.{CarriedReportsWereDeposited, CellsHave
 ghost use Rattle.register_law.specs.Laws.{CarriedRegisteredStays, CarriedKnownStays};
 ghost use Rattle.register_law.specs.Laws.{ChosenIsAllThatIsReported, ChosenRemains, RecordsStay};
 ghost use Rattle.register_law.specs.Overlaps.{OverlapsAreHistories};
-ghost use Rattle.register_law.specs.Refinement.{HistoriesRefine};
+ghost use Rattle.register_law.specs.Refinement.{HistoriesRefine, StepsReportWhatWasDecided};
 
 use cell_device::Cell;
 
@@ -17,6 +17,11 @@ use cell_device::Cell;
 /// for which it was decided.
 pub fn histories_refine<C: Cell>()
     ensures { (members : Membership) → HistoriesRefine C.device members }
+{}
+
+/// What is reported in such a step was decided before it, and not only by the step itself.
+pub fn steps_report_what_was_decided<C: Cell>()
+    ensures { (members : Membership) → StepsReportWhatWasDecided C.device members }
 {}
 
 /// A history of new cells goes on from a run without events: so what is said of those that go on is

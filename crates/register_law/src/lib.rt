@@ -14,5 +14,5 @@ pub use law::{
     carried_agree_with_the_run, carried_known_stays, carried_registered_stays,
     carried_reports_agree, carried_reports_were_deposited, cells_have_no_conflict,
     chosen_is_all_that_is_reported, chosen_remains, histories_refine, new_cells_are_left_by_none,
-    overlaps_are_histories, records_stay,
+    overlaps_are_histories, records_stay, steps_report_what_was_decided,
 };

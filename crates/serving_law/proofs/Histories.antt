@@ -234,10 +234,7 @@ module _ {C : Type 0} (device : C → Device) (members : Membership)
         → turn_of device addresses gives old turn.took turn.done next
         → IsStep device members history old next addresses gives turn
     taken history n old next addresses gives turn may serving come comes = (
-      step,
-      refl,
-      refl,
-      refl,
+      folders.0,
       folders.1,
       takes,
       λ not_last.

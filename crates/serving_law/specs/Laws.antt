@@ -11,7 +11,7 @@ use Rattle.cell_device.specs.Devices.{Device}
 use Rattle.udp_site.specs.Turns as turns
 use Rattle.udp_site.specs.Turns.{Serving, turn_of}
 use Rattle.udp_site.specs.Served.{Turned, is_the_last}
-use Rattle.serving_law.specs.Federations.{Step, Happening, new_federation, after_all}
+use Rattle.serving_law.specs.Federations.{Happening, new_federation, after_all}
 use Rattle.serving_law.specs.Rules.{MayCome, IsServing, Takes, IsHistory}
 use Rattle.serving_law.specs.Reports.{Reports, Registers, SaysKnown, OnRecord, KnownOnRecord}
 use Rattle.serving_law.specs.Reports.{IsDeposit}
@@ -26,16 +26,19 @@ pub record WasDeposited {C : Type 0} (federation : ℕ) (history : List (Happeni
   pub is : IsDeposit federation (after_all new_federation before) happening slot bag
 
 module _ {C : Type 0} (device : C → Device) (members : Membership) where
-  -- The turn is one that may happen, with these addresses, and with what it is known that folders
-  -- give,
+  -- This very turn may happen, with these addresses, and with what it is known that folders give,
   -- or, where that isn't known, some folders. It goes on only where its site needs no opening, and
   -- its site represents what it has heard, as `serve` asks of one that begins.
   abbrev pub IsStep : List (Happening C) → (old next : Serving C) → List ℕ
       → Option (List ℕ → Result TreeFacts TreeFault) → Turned → Type 0
   IsStep history old next addresses gives turn =
-      (step : Step C) × (step.turn ≡ turn) × (step.next ≡ next) × (step.addresses ≡ addresses)
-      × IfSome gives (λ answer. step.folders ≡ answer)
-      × Takes device members (after_all new_federation history) old step
+      (folders : List ℕ → Result TreeFacts TreeFault) × IfSome gives (λ answer. folders ≡ answer)
+      × Takes device members (after_all new_federation history) old (record {
+        addresses = addresses;
+        folders = folders;
+        turn = turn;
+        next = next;
+      })
       × (is_the_last turn ≡ false → next.site.book.needs_opening ≡ false)
       × (turns.IsServing old → turns.IsServing next)
 

@@ -30,7 +30,7 @@ use Rattle.reach_law.proofs.Reaching.{leads, known_chosen, has_voted}
 use Rattle.reach_law.proofs.Words.{some_of}
 use Rattle.serving_law.specs.Federations.{Member, Serves, Down, Federation, Happening}
 use Rattle.serving_law.specs.Federations.{new_federation, after_all}
-use Rattle.serving_law.specs.Reports.{records_of}
+use Rattle.serving_law.specs.Reports.{Reports, records_of}
 use Rattle.serving_law.specs.Rules.{IsHistory}
 use Rattle.serving_law.proofs.Happenings.{records_are}
 use Rattle.serving_law.proofs.Networks.{Stands}
@@ -232,3 +232,13 @@ module _ {C : Type 0} (device : C → Device) (members : Membership) (only_now :
         bag
         reports))
         rounds
+
+-- ---- where they agree, it is on what was reported
+
+pub they_agree : {C : Type 0} (members : Membership) (running : List ℕ)
+    (history : List (Happening C)) (slot : SlotName) (bag : BagId) (h : Happening C)
+    (f : Federation C) (n : ℕ) → Agree members.federation history running slot f → Has h history
+    → Reports members.federation h slot bag → Has n running
+    → known_of slot (records_of (f.members n)) ≡ Some bag
+they_agree members running history slot bag h f n agree has reports runs =
+    agree.known n runs ∙ ap Some (sym (agree.reported h bag has reports))

@@ -1,5 +1,5 @@
 -- What is promised of sites that serve, whatever has happened to them.
-use Rattle.std.specs.Prelude.{ℕ, List}
+use Rattle.std.specs.Prelude.{◌≡◌, ℕ, List, Some}
 use Rattle.fed_types.specs.declared.bag_id.BagId.{BagId}
 use Rattle.fed_types.specs.Lists.{Has}
 use Rattle.fed_types.specs.Quorums.{IsQuorum, quorums_of}
@@ -7,13 +7,14 @@ use Rattle.fed_types.specs.Sites.{Membership}
 use Rattle.fed_types.specs.Slots.{SlotName}
 use Rattle.fed_types.specs.Values.{IsMembership}
 use Rattle.cell_device.specs.Devices.{Device}
+use Rattle.records.specs.SlotStates.{known_of}
 use Rattle.world_law.specs.Laws.{IsChosen}
 use Rattle.reach_law.specs.Running.{AreMembers, RoundsAreLeft, CanDecide}
-use Rattle.serving_law.specs.Federations.{Happening, new_federation, after_all}
-use Rattle.serving_law.specs.Reports.{Reports}
+use Rattle.serving_law.specs.Federations.{Federation, Happening, new_federation, after_all}
+use Rattle.serving_law.specs.Reports.{Reports, records_of}
 use Rattle.serving_law.specs.Rules.{IsHistory}
 use Rattle.serving_reach_law.specs.Answering.{AreAnswered, ComesAbout}
-use Rattle.serving_reach_law.specs.Reach.{HavePorts, network_of, IsWithinReach}
+use Rattle.serving_reach_law.specs.Reach.{HavePorts, network_of, Agree, IsWithinReach}
 
 -- those that run are members, and a quorum; and each member has an address
 pub record AreRunning (members : Membership) (addresses running : List ℕ) : Type 0 where
@@ -56,6 +57,15 @@ module _ {C : Type 0} (device : C → Device) (members : Membership) where
       → Has h history → Reports members.federation h slot bag
       → HaveRounds history running slot
       → IsWithinReach device members addresses history running slot
+
+  -- Where those that run agree, a bag that was reported is the one that they know.
+  abbrev pub TheyAgreeOnWhatWasReported : Type 0
+  TheyAgreeOnWhatWasReported =
+      (running : List ℕ) (history : List (Happening C)) (slot : SlotName) (bag : BagId)
+      (h : Happening C) (f : Federation C) (n : ℕ)
+      → Agree members.federation history running slot f
+      → Has h history → Reports members.federation h slot bag → Has n running
+      → known_of slot (records_of (f.members n)) ≡ Some bag
 
   -- what is within reach comes about, where calls that may answer are answered
   abbrev pub WhatIsWithinReachComesAbout : Type 0

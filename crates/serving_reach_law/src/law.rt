@@ -1,6 +1,7 @@
 ghost use Rattle.fed_types.specs.Sites.{Membership};
 ghost use Rattle.serving_reach_law.specs.Laws.{ADecisionIsWithinReach, WhatIsChosenIsWithinReach};
 ghost use Rattle.serving_reach_law.specs.Laws.{WhatIsReportedIsWithinReach};
+ghost use Rattle.serving_reach_law.specs.Laws.{TheyAgreeOnWhatWasReported};
 ghost use Rattle.serving_reach_law.specs.Laws.{WhatIsWithinReachComesAbout};
 
 use cell_device::Cell;
@@ -28,6 +29,11 @@ pub fn what_is_chosen_is_within_reach_in_turns<C: Cell>()
 /// So is what any member ever reported, to anybody.
 pub fn what_is_reported_is_within_reach_in_turns<C: Cell>()
     ensures { (members : Membership) → WhatIsReportedIsWithinReach C.device members }
+{}
+
+/// And the bag that was reported is the one that those that run know where they agree.
+pub fn they_agree_on_what_was_reported<C: Cell>()
+    ensures { (members : Membership) → TheyAgreeOnWhatWasReported C.device members }
 {}
 
 /// What is within reach comes about, where calls that may answer are answered.

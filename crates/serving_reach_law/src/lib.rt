@@ -10,6 +10,7 @@ mod law;
 
 pub use examples::{a_decision_comes_about, tapes_answer, tapes_are_like_cells};
 pub use law::{
-    a_decision_is_within_reach_in_turns, what_is_chosen_is_within_reach_in_turns,
-    what_is_reported_is_within_reach_in_turns, what_is_within_reach_comes_about,
+    a_decision_is_within_reach_in_turns, they_agree_on_what_was_reported,
+    what_is_chosen_is_within_reach_in_turns, what_is_reported_is_within_reach_in_turns,
+    what_is_within_reach_comes_about,
 };

@@ -146,7 +146,7 @@ fn is_cut(file: &File) -> bool {
     let mut last = [b'\n'];
     if let Ok(about) = file.metadata() {
         if about.len() > 0 {
-            let _ = file.read_at(&mut last, about.len() - 1);
+            let _ = file.read_exact_at(&mut last, about.len() - 1);
         }
     }
     last[0] != b'\n'

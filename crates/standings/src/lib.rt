@@ -15,6 +15,7 @@
 
 mod answer;
 mod asking;
+mod law;
 mod listening;
 mod polled;
 mod report;
@@ -22,6 +23,7 @@ mod site_lines;
 mod stopwatch;
 mod versions;
 
+pub use law::{nothing_else_is_handed_out, what_is_heard_was_answered};
 pub use polled::{Heard, Polled};
 pub use report::report_standings;
 pub use versions::versions_in;

@@ -22,6 +22,7 @@ use Rattle.site.specs.declared.answer.Reply.{Reply}
 use Rattle.site.specs.declared.answer.Reply.TheVariants as replies
 use Rattle.site.specs.declared.fault.SiteFault.{SiteFault}
 use Rattle.site.specs.declared.fault.SiteFault.TheVariants as faults
+use Rattle.udp_site.specs.inner.SlotRecords.{known_at, is_settled}
 use Rattle.udp_site.specs.Rounds.{waits_at, waits, going_round, next_waiting}
 use Rattle.udp_site.specs.inner.SlotRecords.{says_known}
 
@@ -140,6 +141,16 @@ waits_within rs place is = go (slice_get (deposits_of rs) place) refl is
     go None e h = absurd (differ h)
     go (Some row) e h =
         omega (arith, slice_get_within (deposits_of rs) place row e, deposits_within rs)
+
+-- past all records no deposit stands, so none is settled there
+pub past_all : (rs : List Record) (place : ℕ) → length rs ≤ place → is_settled rs place ≡ false
+past_all rs place past = go (slice_get (deposits_of rs) place) refl
+  where
+    go : (o : Option (SlotName × BagId)) → slice_get (deposits_of rs) place ≡ o
+        → known_at rs (option_map (λ (row : SlotName × BagId). row.0) o) ≡ false
+    go None e = refl
+    go (Some row) e =
+        absurd (omega (arith, slice_get_within (deposits_of rs) place row e, deposits_within rs, past))
 
 pub next_within : (rs : List Record) (from limit : ℕ) (o : Option ℕ) → o ≡ next_waiting rs from
     → length rs < limit + 1 → IfSome o (λ (place : ℕ). place < limit)

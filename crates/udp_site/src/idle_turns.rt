@@ -1,6 +1,6 @@
 //! Turns in which nothing came.
 
-ghost use Rattle.std.specs.Prelude.{◌≡◌, ◌<◌, ◌≤◌, ℕ, true, max, is_some, IfSome};
+ghost use Rattle.std.specs.Prelude.{◌≡◌, ◌<◌, ◌≤◌, ℕ, true, false, max, is_some, IfSome};
 ghost use Rattle.std.specs.List.{list_any};
 ghost use Rattle.records.specs.SlotStates.{known_of};
 ghost use Rattle.udp_site.specs.Rounds.{waits, next_waiting};
@@ -81,16 +81,19 @@ impl<C: Cell, P: Port, F: Folders> Server<'_, '_, '_, '_, '_, C, P, F> {
 }
 
 // The first place, from this one on, that isn't settled.
+#[tactic(auto, using(crate::proofs::WaitingDeposits::past_all))]
 fn past_settled<C: Cell>(site: &Site<C>, from: usize) -> usize
-    ensures { (place : ℕ) → from ≤ place → place < result
+    ensures settled { (place : ℕ) → from ≤ place → place < result
         → is_settled site.now.book.records place ≡ true }
+    ensures first { is_settled site.now.book.records result ≡ false }
 {
-    for place in from..site.records().len() {
+    let end = site.records().len();
+    for place in from..end {
         if !is_settled(site, place) {
             return place;
         }
     }
-    from
+    from.max(end)
 }
 
 // The first deposit without a known bag, from this place on, and then from the first one on.

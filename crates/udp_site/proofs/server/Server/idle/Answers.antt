@@ -18,7 +18,7 @@ settled : (g : Over) (c : After-past_settled-self g)
     → AreSettled c.args.self.now.site.now.book.records c.past_settled-self.result
 settled g c are =
     settled_on c.args.self.now.site.now.book.records c.args.self.now.progress.settled
-    c.past_settled-self.result are c.past_settled-self.ensures
+    c.past_settled-self.result are c.past_settled-self.ensures.settled
 
 pub returns-then-self-from-ne0-clause-turn : goal.returns-then-self-from-ne0-clause-turn
 returns-then-self-from-ne0-clause-turn g c = record {
