@@ -19,8 +19,8 @@ pub fn push_empty(rt: &HostRuntime, text: &mut String, paths: &[&str]) -> Result
     Ok(())
 }
 
-// `-` isn't the file of that name.
-fn is_empty(rt: &HostRuntime, path: &str) -> bool {
+/// Whether the file of this path is empty; `-` isn't the file of that name.
+pub(crate) fn is_empty(rt: &HostRuntime, path: &str) -> bool {
     if path == "-" {
         return false;
     }

@@ -1,10 +1,10 @@
 //! Why a file can't be read.
 
+use crate::empty_files::is_empty;
 use crate::piped::{is_piped, path_to_read};
-use code_words::{CELL_START, NO_CELL, SYNCED, kind_at, push_error, push_path};
+use code_words::{CELL_START, NO_CELL, SYNCED, first_bytes, kind_at, push_error, push_path};
 use std::alloc::AllocError;
 use std::fs::{self, File};
-use std::io::Read;
 
 /// What is said of the file beside a cell.
 const LENGTHS: &str = "; it is what a site leaves beside its cell: give the cell";
@@ -76,13 +76,15 @@ pub(crate) fn other_file(rt: &HostRuntime, path: &str) -> Option<&'static str> {
     if is_piped(rt, path) {
         return Some(GONE);
     }
-    let mut front = [0u8; 3];
-    let Ok(mut file) = File::open(rt, path_to_read(path)) else {
-        return None;
-    };
-    match file.read(&mut front) {
-        Ok(0) => Some("; it is empty, and a cell has a header at least"),
-        Ok(count) if count == front.len() && front.as_slice() != CELL_START => { Some(NO_CELL) }
-        _ => None,
+    let path = path_to_read(path);
+    if is_empty(rt, path) {
+        return Some("; it is empty, and a cell has a header at least");
+    }
+    let bytes = first_bytes(rt, path);
+    let front = bytes.get(..CELL_START.len())?;
+    if front == CELL_START {
+        None
+    } else {
+        Some(NO_CELL)
     }
 }
