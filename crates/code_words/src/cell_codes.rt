@@ -21,7 +21,8 @@ pub static OPEN: [Meaning; 6] = [
     },
     Meaning {
         code: "open 4",
-        words: "the cell can't be opened or read, is in use, or has lost its header",
+        words: "the cell or the list can't be opened or read, or the cell is in use or has lost its \
+            header",
         advice: "look at the path, the rights, the mount, and for a second process",
     },
     Meaning {
@@ -31,7 +32,7 @@ pub static OPEN: [Meaning; 6] = [
     },
     Meaning {
         code: "open 6",
-        words: "the cell has records, and its members had other weights",
+        words: "the cell has records, and its members were others, or had other weights",
         advice: "compare the members file with those of the other sites",
     },
 ];

@@ -38,7 +38,7 @@ pub(crate) fn push_reason(
         "socket" => push_socket(rt, text, asked),
         "open 4" => push_cell(rt, text, asked),
         _ if is_reply(line, "pending") => push_in_vain(text, asked),
-        _ if is_reply(line, "nothing") => push_unheard(text, asked),
+        _ if is_reply(line, "nothing") => push_unheard(text, asked, line),
         _ => push_meaning(rt, text, asked, line),
     }
 }
@@ -225,17 +225,40 @@ fn is_reply(line: &str, what: &str) -> bool {
 
 // Appends why a site may know no bag of a version of which it has heard nothing, where it was asked
 // until it knows one: most likely nobody has deposited one.
-fn push_unheard(text: &mut String, asked: &Asked<'_>) -> Result<(), AllocError> {
-    let Some(seconds) = asked.until_known else {
+fn push_unheard(text: &mut String, asked: &Asked<'_>, line: &str) -> Result<(), AllocError> {
+    if let Some(seconds) = asked.until_known {
+        let site = asked.site;
+        write!(
+            text,
+            "site {site} answers, and no bag was known after {seconds} s: it has no deposit of \
+            this version, and has heard of no bag; look at the name and the version, and see by \
+            bagpaxos status whether sites with more than half of all weight run"
+        )?;
+    }
+    push_escaped(text, line)
+}
+
+// Appends that a name is taken as it is, if it has a percent sign and two digits of hex: a line
+// writes the percent sign as `%25`.
+fn push_escaped(text: &mut String, line: &str) -> Result<(), AllocError> {
+    let name = line.split(' ').nth(2).unwrap_or("");
+    if !name.split("%25").skip(1).any(|rest| starts_with_hex(rest)) {
         return Ok(());
-    };
-    let site = asked.site;
-    write!(
-        text,
-        "site {site} answers, and no bag was known after {seconds} s: it has no deposit of this \
-        version, and has heard of no bag; look at the name and the version, and see by \
-        bagpaxos status whether sites with more than half of all weight run"
+    }
+    if !text.is_empty() {
+        text.push_str("; ")?;
+    }
+    text.push_str(
+        "the object's name is taken as it is, and `%20` in it stands for no blank: give the name \
+        in quotes, with its blanks",
     )
+}
+
+fn starts_with_hex(text: &str) -> bool {
+    match text.as_bytes() {
+        [first, second, ..] => first.is_ascii_hexdigit() && second.is_ascii_hexdigit(),
+        _ => false,
+    }
 }
 
 // Appends why a site may know no bag that was deposited, where it was asked until it does.
@@ -247,7 +270,8 @@ fn push_in_vain(text: &mut String, asked: &Asked<'_>) -> Result<(), AllocError> 
     write!(
         text,
         "site {site} answers, and no bag was known after {seconds} s: sites with more than half of \
-        all weight have to run and to hear each other; its log says since when it heard no majority"
+        all weight have to run and to hear each other; its log says since when it heard no \
+        majority; or it has only now read the bag: ask again"
     )
 }
 

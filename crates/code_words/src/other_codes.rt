@@ -11,8 +11,8 @@ pub static OTHERS: [Meaning; 30] = [
     },
     Meaning {
         code: "input unread",
-        words: "standard input can't be read",
-        advice: "say where the schedule comes from: `bagpaxos run < FILE`",
+        words: "the schedule can't be read",
+        advice: "look at the path, or give it as standard input: `bagpaxos run < FILE`",
     },
     Meaning {
         code: "schedule line N",
