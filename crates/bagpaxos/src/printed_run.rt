@@ -13,7 +13,7 @@ use schedule::{ParseFault, parse};
 use std::alloc::AllocError;
 use std::fs::{self, File};
 use std::io;
-use std::io::{ErrorKind, Read};
+use std::io::{ErrorKind, IsTerminal, Read};
 use std::os::unix::fs::FileTypeExt;
 
 /// Where standard input is.
@@ -34,15 +34,18 @@ pub(crate) fn run_schedule(rt: &HostRuntime, task: &RunTask<'_>) -> Result<u8, P
 
 fn run_source(rt: &HostRuntime, task: &RunTask<'_>) -> Result<u8, ProgramFault> {
     match task.file {
-        None => match run_input(rt, task, &mut rt.reader()) {
-            Err(ProgramFault::Input) => {
-                if task.words {
-                    say_unread_input(rt);
+        None => {
+            say_what_is_read(rt);
+            match run_input(rt, task, &mut rt.reader()) {
+                Err(ProgramFault::Input) => {
+                    if task.words {
+                        say_unread_input(rt);
+                    }
+                    Err(ProgramFault::Input)
                 }
-                Err(ProgramFault::Input)
+                answer => answer,
             }
-            answer => answer,
-        },
+        }
         Some(path) => match File::open(rt, path) {
             Ok(mut file) => match run_input(rt, task, &mut file) {
                 Err(ProgramFault::Input) => {
@@ -63,6 +66,13 @@ fn run_source(rt: &HostRuntime, task: &RunTask<'_>) -> Result<u8, ProgramFault> 
                 Err(ProgramFault::Input)
             }
         },
+    }
+}
+
+// Says on a terminal, where nothing would happen else, that the schedule is typed there.
+fn say_what_is_read(rt: &HostRuntime) {
+    if rt.stdin().is_terminal() {
+        let _ = rt.eprintln("the schedule is read from standard input; Ctrl-D ends it");
     }
 }
 
