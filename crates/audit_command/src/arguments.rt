@@ -44,7 +44,8 @@ For each version, in the order in which the cells name them:
 and finally how many of each there are: C chosen, K known, O open, X conflicts.
 
 With --json each line is a line of JSON: an object whose member `line` says what
-kind of line it is, and which has a member for each word after that.
+kind of line it is, and which has a member for each word after that. FORMATS.md
+names them.
 
 With --words standard error says of each cell whether it is in use, or why it
 can't be opened or used; and of each conflict which cells know either bag, or

@@ -26,7 +26,8 @@ knows.
 With --key what is sent has a tag, as with bagpaxos send.
 
 With --json each line is a line of JSON: an object whose member `line` says what
-kind of line it is, and which has a member for each word after that.
+kind of line it is, and which has a member for each word after that. FORMATS.md
+names them.
 
 With --words standard error says in words what lines `other` and `open` say, and
 why nobody was asked.

@@ -32,7 +32,7 @@ pub static OTHERS: [Meaning; 30] = [
     Meaning {
         code: "no answer",
         words: "the site didn't answer in time: it is down, or busy with a bag",
-        advice: "see whether it runs, and ask again; don't deposit again",
+        advice: "see whether it runs, and ask again; deposit again only if it then says `nothing`",
     },
     Meaning {
         code: "members unread",

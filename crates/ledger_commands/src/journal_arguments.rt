@@ -28,7 +28,8 @@ and finally, unless the cell ends with a whole record:
                           of one
 
 With --json each line is a line of JSON: an object whose member `line` says what
-kind of line it is, and which has a member for each word after that.
+kind of line it is, and which has a member for each word after that. FORMATS.md
+names them.
 
 With --words standard error says in words why a cell can't be read, and what the
 last line says.

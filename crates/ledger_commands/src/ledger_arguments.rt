@@ -33,7 +33,8 @@ The versions are then those of the records before that. With `--known`,
 one. `comm` of two sorted lists shows what a site lacks.
 
 With --json each line is a line of JSON: an object whose member `line` says what
-kind of line it is, and which has a member for each word after that.
+kind of line it is, and which has a member for each word after that. FORMATS.md
+names them.
 
 With --words standard error says in words why a cell can't be read, and what a
 line `torn` or `damaged` says.
