@@ -20,8 +20,8 @@ one has voted for it. For each known bag of each file it prints
   known OBJ V HEX       the site knows the bag that the file knows
   other OBJ V HEX HEX   it knows the first, and the file knows the second
   open OBJ V            it didn't know the version when time was over
-and finally `K of N`: of K of the N versions it knows the bag that the file
-knows.
+and finally `K of N`: the files have N versions, one of several files once for
+each, and of K of them the site knows the bag that the file knows.
 
 With --key what is sent has a tag, as with bagpaxos send.
 

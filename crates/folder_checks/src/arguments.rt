@@ -58,7 +58,8 @@ With --named, --from or --from0 this is so even if there is only one.
 --from FILE checks the folders that FILE lists, one a line, and --from0 FILE
 those that zero bytes end, as `find -print0` writes them; `-` is standard input.
 All bytes up to the end are the name, a CR too. A name of no bytes, and one that
-isn't UTF-8, is `unread 1`. If FILE can't be read, the only line is `open 4`.
+isn't UTF-8, is `unread 1`. If FILE can't be read, the only line is `open 4`. An
+empty list prints nothing, and its status is 0.
 
 With --words standard error says in words what is wrong, of all that can be
 read, with names as they are: digests beside those that are listed, names that

@@ -32,9 +32,9 @@ compare names, and never keys. With --new-key it writes a key file, for its
 owner alone, with random keys, and prints their names.
 
 With --json each line is a line of JSON: an object whose member `line` says what
-kind of line it is, and which has a member for each word after that. With
---words standard error says in words what the last line says, if something is
-amiss.
+kind of line it is, and which has a member for each word after that. FORMATS.md
+names them. With --words standard error says in words what the last line says,
+if something is amiss.
 
 The exit status is 0; 1 if the last line says what is amiss:
   members unread        the members file can't be read

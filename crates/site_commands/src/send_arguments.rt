@@ -30,6 +30,10 @@ prints one line, of site N:
 or `members unread`, `members line N`, `not a member`, `key unread`,
 `key open to others`, `key line N`, `socket` or `memory`, as bagpaxos site.
 
+The arguments OBJ and PATH are taken as they are. In a line %20 stands for a
+blank of OBJ, %25 for a percent sign, and so on: `bagpaxos send .. 'a b' 1` asks
+for what a line calls a%20b.
+
 With --until-known it asks until the bag is known, and with PATH deposits it
 first: again after 2 ms, then twice as long each time, and a second at most.
 Once it asks each second, it also has the sites recover the version, one after
@@ -59,6 +63,8 @@ The last line is `K of N`: K of the N deposits are `registered`, or with
 With --key what is sent has a tag by the first `clients` key of the file, and an
 answer counts only with a tag by one of them. A file with no more than one line
 `clients HEX` is enough.
+
+There is no --json: a line's words are separated by one blank each.
 
 With --words standard error says in words what a line says that isn't what was
 asked for. `bagpaxos help codes` lists what each says.
@@ -176,7 +182,7 @@ fn deposits_argument<'a>(alloc: Global) -> Arg<'a> {
 
 fn object_argument<'a>(alloc: Global) -> Result<Arg<'a>, AllocError> {
     Arg::new(alloc, "OBJ")
-        .help("The name of the object, 1 to 200 bytes")
+        .help("The name of the object as it is, 1 to 200 bytes")
         .required_unless_present("deposits")?
         .conflicts_with("deposits")
 }

@@ -18,13 +18,12 @@ each:
                     bags more
   site S silent     no answer came
 and finally `federation F K of N`: K of its N sites are well. A site is well if
-it answers, knows as many bags as the others and the files, and hears a
-majority, or has no deposit that waits for one. It compares how many bags are
-known, not which ones: so sites that were down one after the other may each lack
-another one. Run catch-up after each stop, whatever this says. Where nothing
-happens the sites are silent: then A grows, though all is well. While deposits
-are under way a site may lack some for a moment; --watch shows whether that
-lasts.
+it answers, L is 0, and A or P is 0. A stays 0 for up to 20 seconds after a
+majority was heard last. It compares how many bags are known, not which ones: so
+sites that were down one after the other may each lack another one. Run catch-up
+after each stop, whatever this says. Where nothing happens the sites are silent:
+then A grows, though all is well. While deposits are under way a site may lack
+some for a moment; --watch shows whether that lasts.
 
 Each FILE is a cell, which may be in use and is never changed, or a list that
 `ledger` printed; a version that one of them knows counts as known elsewhere.
@@ -32,8 +31,9 @@ With --watch each is read again each time, so none may come through a pipe.
 
 With --key what is sent has a tag, as with bagpaxos send. With --json each line
 is a line of JSON: an object whose member `line` says what kind of line it is,
-and which has a member for each word after that. With --words standard error
-says in words why a site isn't well, or why nobody was asked.
+and which has a member for each word after that. FORMATS.md names them. With
+--words standard error says in words why a site isn't well, or why nobody was
+asked.
 
 The exit status is 0 if all sites are well; 1 if one isn't, or the last line
 says why nobody was asked:
