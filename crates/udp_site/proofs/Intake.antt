@@ -1,14 +1,15 @@
 -- What a batch takes in, one after another.
 use Rattle.std.proofs.Common.{◌≡◌, ◌≤◌, ◌+◌, List, [], ◌∷◌, ◌++◌, length}
 use Rattle.std.specs.Prelude.{IfOk}
-use Rattle.std.proofs.Common.{map, Option, Some, None, Result, Ok, Err, sym, ap, subst, ◌∙◌, arith}
-use Rattle.std.proofs.Common.{append_assoc, append-nil}
+use Rattle.std.proofs.Common.{map, take, refl, Option, Some, None, Result, Ok, Err, sym, ap, subst, ◌∙◌, arith}
+use Rattle.std.proofs.Common.{append_assoc, append-nil, length-append}
 use Rattle.std.specs.Option.{option_to_list}
-use Rattle.std.proofs.lemmas.List.{length-map, map-append}
+use Rattle.std.proofs.Math.Seq.{take-append_seam}
+use Rattle.std.proofs.lemmas.List.{length-map, map-append, take-map}
 use Rattle.udp_site.specs.declared.turn.Turn.{Turn}
 use Rattle.udp_site.specs.Traffic.{Taken, Move, Took, Grows, taken}
 use Rattle.udp_site.specs.BatchTurns.{AreTogether, MOST_TURNS}
-use Rattle.udp_site.specs.inner.Batched.{TakesFirst, TakesIn, JoinsMore, carried_of}
+use Rattle.udp_site.specs.inner.Batched.{TakesFirst, TakesIn, JoinsMore, JoinsLater, carried_of}
 use Rattle.udp_site.specs.declared.fault.ServeFault.{ServeFault}
 use Rattle.udp_site.specs.inner.Receipts.{Receives}
 use Rattle.udp_site.proofs.Growth.{Grows-trans, Grows-none}
@@ -96,3 +97,80 @@ received_first a b old (Ok turn) none grows = (
   grows,
 )
 received_first a b old (Err fault) none grows = tt
+
+-- ---- what joins a batch whose turns were taken
+
+-- nothing
+pub none_later : (a : Option (List Move)) (carried : Option Turn) (batch : List Turn)
+    → JoinsLater a a carried carried batch batch
+none_later a None batch = none_joined a batch
+none_later a (Some turn) batch = (refl, refl, Grows-none a)
+
+-- these, since nothing was carried
+pub joined_later : (a b c : Option (List Move)) (was carried : Option Turn) (old new : List Turn)
+    → was ≡ None → b ≡ a → JoinsMore b c old new carried → JoinsLater a c was carried old new
+joined_later a b c None carried old new none same joined =
+    subst (λ (m : Option (List Move)). JoinsMore m c old new carried) same joined
+joined_later a b c (Some turn) carried old new none same joined = absurd (cc none)
+
+-- those before them are the first
+pub first_taken : (a b : Option (List Move)) (old new : List Turn) (carried : Option Turn)
+    → JoinsMore a b old new carried → map taken old ≡ map taken (take (length old) new)
+first_taken a b old new carried (more, are, grows) =
+    sym (take-append_seam (map taken old) more)
+    ∙ (ap (λ (l : List Taken). take (length (map taken old)) l) (sym are)
+    ∙ (ap (λ n. take n (map taken new)) (length-map old taken)
+    ∙ take-map taken (length old) new))
+
+-- and no fewer are there then
+pub no_fewer : (a b : Option (List Move)) (old new : List Turn) (carried : Option Turn)
+    → JoinsMore a b old new carried → length old ≤ length new
+no_fewer a b old new carried (more, are, grows) =
+    omega (
+      arith,
+      ap length are,
+      length-map new taken,
+      length-map old taken,
+      length-append (map taken old) more,
+    )
+
+joins_together : (xs more : List Taken) → AreTogether xs → length (xs ++ more) ≤ MOST_TURNS
+    → AreTogether (xs ++ more)
+joins_together [] more together most = absurd together
+joins_together (x ∷ xs) more together most = omega (arith, most)
+
+-- all of it was taken in, for a batch that isn't too long
+pub taken_in_later : (a b c : Option (List Move)) (old was carried : Option Turn)
+    (batch new : List Turn) → TakesIn a b old was batch → JoinsLater b c was carried batch new
+    → length new ≤ MOST_TURNS → TakesIn a c old carried new
+taken_in_later a b c old None carried batch new (came, begins, together, grows) joined most =
+    let more = joined.0 in
+    let rest = option_to_list (carried_of carried) in (
+      came ++ (more ++ rest),
+      sym (append_assoc (option_to_list (carried_of old)) came (more ++ rest))
+          ∙ (ap (λ (l : List Taken). l ++ (more ++ rest)) (begins ∙ append-nil (map taken batch))
+          ∙ (sym (append_assoc (map taken batch) more rest)
+          ∙ ap (λ (l : List Taken). l ++ rest) (sym joined.1))),
+      subst AreTogether (sym joined.1)
+          (joins_together (map taken batch) more together
+          (omega (arith, most, ap length joined.1, length-map new taken))),
+      subst (Grows a c) (sym (map-append Took came (more ++ rest)))
+          (Grows-trans a b c (map Took came) (map Took (more ++ rest)) grows joined.2),
+    )
+taken_in_later a b c old (Some turn) carried batch new (came, begins, together, grows)
+    (same, kept, none) most =
+    subst (λ (ts : List Turn). TakesIn a c old carried ts) (sym same)
+    (subst (λ (o : Option Turn). TakesIn a c old o batch) (sym kept) (
+      came,
+      begins,
+      together,
+      subst (Grows a c) (append-nil (map Took came))
+          (Grows-trans a b c (map Took came) [] grows none),
+    ))
+
+-- and it has a turn at least
+pub some_later : (a b : Option (List Move)) (was carried : Option Turn) (batch new : List Turn)
+    → JoinsLater a b was carried batch new → length batch ≤ length new
+some_later a b None carried batch new joined = no_fewer a b batch new carried joined
+some_later a b (Some turn) carried batch new (same, kept, none) =
+    omega (arith, ap length same)

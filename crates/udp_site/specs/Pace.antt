@@ -170,8 +170,9 @@ registers pace = record pace {
   due = pace.waits.prompt;
 }
 
--- A batch ends. So many of the site's deposits wait, as far as they are known, that weren't proposed
--- in this round: the turns that it needs for these are prompt, and no others are.
+-- The turns of a batch were taken, or the batch ends. So many of the site's deposits wait, as far as
+-- they are known, that weren't proposed in this round: the turns that it needs for these are prompt,
+-- and no others are.
 abbrev pub awaits_turns : Pace → (deposits : ℕ) → Pace
 awaits_turns pace deposits = record pace {
   together = false;

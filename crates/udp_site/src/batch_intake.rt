@@ -1,6 +1,6 @@
 //! What a batch takes in.
 
-ghost use Rattle.std.specs.Prelude.{◌≡◌, ◌≤◌, ◌+◌, length, None, vec_capacity};
+ghost use Rattle.std.specs.Prelude.{◌≡◌, ◌≤◌, ◌+◌, length, min, None, vec_capacity};
 ghost use Rattle.std.specs.Prelude.{OnOk, IfOk, IfErr};
 ghost use Rattle.std.specs.Option.{option_to_list};
 ghost use Rattle.udp_site.specs.Failures.{OnlyByFailing};
@@ -17,7 +17,7 @@ use bag_folders::Folders;
 use std::alloc::{AllocError, Global};
 
 /// The most turns of a batch.
-const MOST_TURNS: u32 = 64;
+pub(crate) const MOST_TURNS: u32 = 64;
 
 /// How many bytes of bags are read at most while the records of a batch wait for their sync.
 const MOST_READ: u64 = 1_048_576;
@@ -40,7 +40,9 @@ pub(crate) fn take_in<P: Port, F: Folders>(
         carried.old carried.new fault) }
     // Nothing is taken in beyond what is left.
     ensures count { IfOk result (λ batch. length batch.items
-        + length (option_to_list (carried_of carried.new)) ≤ left) }
+        + length (option_to_list (carried_of carried.new)) ≤ min left 64) }
+    // More may join it.
+    ensures room { IfOk result (λ batch. min left 64 ≤ vec_capacity batch) }
     ensures port { OnlyByFailing ServeFault.Port (P.failures port.old) (P.failures port.new)
         result }
 {
@@ -48,7 +50,9 @@ pub(crate) fn take_in<P: Port, F: Folders>(
     let mut batch = Vec::with_capacity(alloc, most as usize)?;
     let first = take_first(port, carried)?;
     batch.push_reserved(first);
-    *carried = take_more(alloc, federation, port, folders, &mut batch, most);
+    *carried = take_more(
+        alloc, federation, port, folders, &mut batch, most, MOST_READ,
+    );
     Ok(batch)
 }
 
@@ -68,26 +72,27 @@ fn take_first<P: Port>(port: &mut P, carried: &mut Option<Turn>) -> Result<Turn,
     }
 }
 
-// Takes in what is there after the first turn of a batch, up to so many turns in all. The answer is
-// a deposit that came, which begins the next batch.
-fn take_more<P: Port, F: Folders>(
+/// Takes in what is there after the first turns of a batch, up to so many turns in all. Of bags no
+/// more than so many bytes are read. The answer is a deposit that came, which begins the next batch.
+pub(crate) fn take_more<P: Port, F: Folders>(
     alloc: Global,
     federation: u64,
     port: &mut P,
     folders: &F,
     batch: &mut Vec<Turn>,
     most: u32,
+    most_read: u64,
 ) -> Option<Turn>
-    requires first { length batch.old.items ≡ 1 }
+    requires first { length batch.old.items ≤ most }
     requires room { most ≤ vec_capacity batch.old }
-    requires some { 1 ≤ most }
     ensures joined { JoinsMore (P.traffic port.old) (P.traffic port.new) batch.old.items
         batch.new.items result }
     ensures count { length batch.new.items + length (option_to_list (carried_of result)) ≤ most }
+    ensures room { most ≤ vec_capacity batch.new }
     ensures later { P.failures port.old ≤ P.failures port.new }
 {
-    let mut left = MOST_READ;
-    'datagrams: for _ in 1..most {
+    let mut left = most_read;
+    'datagrams: for _ in batch.len()..most as usize {
         let turn = port.try_receive()?;
         match bytes_to_read(alloc, federation, folders, &turn, left) {
             Some(bytes) => left = left.saturating_sub(bytes),
@@ -112,6 +117,9 @@ fn bytes_to_read<F: Folders>(
     };
     if !is_deposit(bytes) {
         return Some(0);
+    }
+    if most == 0 {
+        return None;
     }
     match asked_by(alloc, federation, bytes) {
         Ok(Asked::Deposit(_, path)) => folders.weighs(path.as_str(), most),

@@ -1,7 +1,7 @@
 //! A site that serves in batches: one sync for all turns of a batch.
 
-ghost use Rattle.std.specs.Prelude.{◌≡◌, ◌≤◌, ◌+◌, false, List, [], map, length};
-ghost use Rattle.std.specs.Prelude.{OnOk, IfOk};
+ghost use Rattle.std.specs.Prelude.{◌≡◌, ◌≤◌, ◌+◌, ◌-◌, false, List, Option, [], map, take, length};
+ghost use Rattle.std.specs.Prelude.{OnOk, IfOk, vec_capacity};
 ghost use Rattle.std.specs.List.{flat_map};
 ghost use Rattle.std.specs.Option.{option_to_list};
 ghost use Rattle.book.specs.Batches.{HoldsFirst};
@@ -12,9 +12,10 @@ ghost use Rattle.udp_site.specs.BatchTurns.{refusals, refused_deposit, refusal_t
 ghost use Rattle.udp_site.specs.Failures.{OnlyByFailing};
 ghost use Rattle.udp_site.specs.Served.{outside};
 ghost use Rattle.udp_site.specs.Requests.{request_of};
-ghost use Rattle.udp_site.specs.Traffic.{From, all_handed, taken};
+ghost use Rattle.udp_site.specs.Traffic.{From, Move, all_handed, taken};
 ghost use Rattle.udp_site.specs.Turns.{Serving, IsServing, begins, turn_of};
-ghost use Rattle.udp_site.specs.inner.Batched.{TakesTurns, ServesBatch, GrowsPart, AppendsPart};
+ghost use Rattle.udp_site.specs.inner.Batched.{TakesAll, TakesTurns, ServesBatch, JoinsLater};
+ghost use Rattle.udp_site.specs.inner.Batched.{GrowsPart, AppendsPart};
 ghost use Rattle.udp_site.specs.inner.Batched.{carried_of, refused_turn};
 ghost use Rattle.udp_site.specs.inner.HeldPosts.{posts_held};
 ghost use Rattle.udp_site.specs.inner.OneBatch.{OneBatch, batching};
@@ -22,7 +23,7 @@ ghost use Rattle.udp_site.specs.inner.Outcomes.{Hands};
 ghost use Rattle.udp_site.specs.inner.Servers.{Keeps, Stands};
 ghost use Rattle.udp_site.specs.inner.SlotRecords.{AreSettled};
 
-use crate::batch_intake::take_in;
+use crate::batch_intake::{MOST_TURNS, take_in, take_more};
 use crate::counts::tell_counts;
 use crate::deposits::reply_to_deposit;
 use crate::fault::ServeFault;
@@ -47,10 +48,11 @@ use std::io::Write;
 
 /// Serves `turns` turns, in batches. A batch receives once, and then takes in what is there, up to
 /// 64 turns in all: datagrams that have come, and turns that are idle at once. Each sees the
-/// records of those before it, as in `serve`. Then their records are appended and synced together,
-/// in the cell from which the site was parted. Then all their datagrams are handed out, and their
-/// lines are written. A deposit is the first of its batch, so that nothing waits while its folder
-/// is read.
+/// records of those before it, as in `serve`. Where deposits wait then, the turns in which the site
+/// proposes them may join the batch. Then the records of all are appended and synced together, in
+/// the cell from which the site was parted. Then all their datagrams are handed out, and their
+/// lines are written. The deposit of a large bag is the first of its batch, so that nothing waits
+/// while its folder is read.
 ///
 /// `Cell`: the sync failed, and the site has to be opened again, from its cell. Nothing of the
 /// batch is handed out or written. But a line says that it failed, and so does a reply to the
@@ -147,34 +149,45 @@ impl<F: Folders> Server<'_, '_, '_, '_, '_, Waiting, HeldPort, F> {
             result }
     {
         let federation = self.site.members().federation();
-        let batch = take_in(self.alloc, federation, port, self.folders, carried, left)?;
-        self.serve_batch(held, port, &batch, output)?;
+        let mut batch = take_in(self.alloc, federation, port, self.folders, carried, left)?;
+        let most = left.min(MOST_TURNS);
+        self.serve_batch(held, port, &mut batch, carried, most, output)?;
         Ok(batch.len() as u32)
     }
 
-    // A batch: its turns, one sync, and then what they hand out and say.
+    // A batch of so many turns at most: its turns, one sync, and then what they hand out and say.
     fn serve_batch<C: Cell, P: Port, W: Write>(
         &mut self,
         held: &mut SyncedCell<C>,
         port: &mut P,
-        batch: &[Turn],
+        batch: &mut Vec<Turn>,
+        carried: &mut Option<Turn>,
+        most: u32,
         output: &mut W,
     ) -> Result<(), ServeFault>
-        requires idle { self.old.progress.idle + length batch.now ≤ 4294967295 }
+        requires idle { self.old.progress.idle + most ≤ 4294967295 }
+        requires count { length batch.old.items
+            + length (option_to_list (carried_of carried.old)) ≤ most }
+        requires room { most ≤ vec_capacity batch.old }
         requires empty { posts_held self.old.port.now ≡ [] }
         requires held { HoldsFirst C.device held.old self.old.site.now.book }
         requires waits { self.old.site.now.book.needs_opening ≡ false }
         requires stands { (s : Serving Waiting) × Stands s self.old.site.now self.old.progress }
         ensures keeps { Keeps (λ port. 0) F.gives self.old self.new }
         ensures serves { (s : Serving Waiting) → Stands s self.old.site.now self.old.progress
-            → ServesBatch C.device
+            → (joined : Option (List Move))
+            × JoinsLater (P.traffic port.old) joined carried.old carried.new batch.old.items
+            batch.new.items
+            × ServesBatch C.device
             (turn_of no_cell self.old.addresses.now (F.gives self.old.folders.now))
-            (map taken batch.now)
-            (outside (P.traffic port.old) (W.contents output.old))
+            (map taken batch.new.items)
+            (outside joined (W.contents output.old))
             (outside (P.traffic port.new) (W.contents output.new))
             s held.old held.new self.new.site.now self.new.progress.idle self.new.progress.tried
             result }
-        ensures count { self.new.progress.idle ≤ self.old.progress.idle + length batch.now }
+        ensures count { length batch.new.items
+            + length (option_to_list (carried_of carried.new)) ≤ most }
+        ensures idle { self.new.progress.idle ≤ self.old.progress.idle + length batch.new.items }
         ensures settled { OnOk result ((s : Serving Waiting)
             → Stands s self.old.site.now self.old.progress
             → AreSettled self.new.site.now.book.records self.new.progress.settled) }
@@ -184,7 +197,7 @@ impl<F: Folders> Server<'_, '_, '_, '_, '_, Waiting, HeldPort, F> {
         ensures later { P.failures port.old ≤ P.failures port.new }
     {
         let mut marks = LineMarks::new();
-        self.take_turns(batch, &mut marks)?;
+        self.take_batch(port, batch, carried, most, &mut marks)?;
         match self.site.sync(held) {
             Ok(synced) => {
                 let untried = self.untried();
@@ -202,25 +215,84 @@ impl<F: Folders> Server<'_, '_, '_, '_, '_, Waiting, HeldPort, F> {
         }
     }
 
-    // Takes the turns of a batch: what they hand out is held, and what they say are lines, which
-    // are marked.
-    fn take_turns(&mut self, batch: &[Turn], marks: &mut LineMarks) -> Result<(), ServeFault>
-        requires idle { self.old.progress.idle + length batch.now ≤ 4294967295 }
+    // Takes the turns of a batch. Where deposits wait then, the port may have turns that are idle at
+    // once: these join the batch, and so does what else is there, but no deposit. So a deposit and
+    // its proposal are synced together.
+    fn take_batch<P: Port>(
+        &mut self,
+        port: &mut P,
+        batch: &mut Vec<Turn>,
+        carried: &mut Option<Turn>,
+        most: u32,
+        marks: &mut LineMarks,
+    ) -> Result<(), ServeFault>
+        requires idle { self.old.progress.idle + most ≤ 4294967295 }
+        requires count { length batch.old.items
+            + length (option_to_list (carried_of carried.old)) ≤ most }
+        requires room { most ≤ vec_capacity batch.old }
         requires empty { posts_held self.old.port.now ≡ [] }
         ensures keeps { Keeps (λ port. 0) F.gives self.old self.new }
+        ensures joins { JoinsLater (P.traffic port.old) (P.traffic port.new) carried.old
+            carried.new batch.old.items batch.new.items }
         ensures takes { (s : Serving Waiting) → Stands s self.old.site.now self.old.progress
+            → TakesTurns (turn_of no_cell self.old.addresses.now
+            (F.gives self.old.folders.now)) (map taken batch.new.items) s self.new.site.now
+            (posts_held self.new.port.now) self.new.lines.now.items
+            self.new.progress.idle self.new.progress.tried result }
+        ensures count { length batch.new.items
+            + length (option_to_list (carried_of carried.new)) ≤ most }
+        ensures idle { self.new.progress.idle ≤ self.old.progress.idle + length batch.new.items }
+        ensures settled { OnOk result ((s : Serving Waiting)
+            → Stands s self.old.site.now self.old.progress
+            → AreSettled self.new.site.now.book.records self.new.progress.settled) }
+        ensures later { P.failures port.old ≤ P.failures port.new }
+    {
+        self.lines.clear();
+        self.take_turns(batch, 0, marks)?;
+        if carried.is_some() {
+            return Ok(());
+        }
+        let untried = self.untried();
+        if untried == 0 {
+            return Ok(());
+        }
+        port.awaits_turns(untried);
+        let so_far = batch.len();
+        let federation = self.site.members().federation();
+        *carried = take_more(self.alloc, federation, port, self.folders, batch, most, 0);
+        self.take_turns(batch, so_far, marks)
+    }
+
+    // Takes the turns of a batch from this one on: what they hand out is held, and what they say
+    // are lines, which are marked.
+    fn take_turns(
+        &mut self,
+        batch: &[Turn],
+        from: usize,
+        marks: &mut LineMarks,
+    ) -> Result<(), ServeFault>
+        requires idle { self.old.progress.idle + (length batch.now - from) ≤ 4294967295 }
+        ensures keeps { Keeps (λ port. 0) F.gives self.old self.new }
+        ensures takes { (s : Serving Waiting)
+            → TakesAll (turn_of no_cell self.old.addresses.now (F.gives self.old.folders.now))
+            (map taken (take from batch.now)) s self.old.site.now (posts_held self.old.port.now)
+            self.old.lines.now.items self.old.progress.idle self.old.progress.tried
+            → AreSettled self.old.site.now.book.records self.old.progress.settled
             → TakesTurns (turn_of no_cell self.old.addresses.now
             (F.gives self.old.folders.now)) (map taken batch.now) s self.new.site.now
             (posts_held self.new.port.now) self.new.lines.now.items
             self.new.progress.idle self.new.progress.tried result }
-        ensures count { self.new.progress.idle ≤ self.old.progress.idle + length batch.now }
+        ensures count { self.new.progress.idle
+            ≤ self.old.progress.idle + (length batch.now - from) }
         ensures settled { OnOk result ((s : Serving Waiting)
-            → Stands s self.old.site.now self.old.progress
+            → TakesAll (turn_of no_cell self.old.addresses.now (F.gives self.old.folders.now))
+            (map taken (take from batch.now)) s self.old.site.now (posts_held self.old.port.now)
+            self.old.lines.now.items self.old.progress.idle self.old.progress.tried
+            → AreSettled self.old.site.now.book.records self.old.progress.settled
             → AreSettled self.new.site.now.book.records self.new.progress.settled) }
     {
-        self.lines.clear();
-        for turn in batch {
-            self.handle_turn(turn)?;
+        for place in from..batch.len() {
+            self.handle_turn(&batch[place])?;
             marks.turn_ends(self.lines.len());
         }
         Ok(())

@@ -252,8 +252,8 @@ impl Pace {
             .min(MOST_PROMPT)
     }
 
-    /// A batch ends. So many deposits wait that weren't proposed in this round, as far as that is
-    /// known.
+    /// The turns of a batch were taken, or the batch ends. So many deposits wait that weren't proposed
+    /// in this round, as far as that is known.
     pub(crate) fn awaits_turns(&mut self, deposits: u32)
         ensures { self.new ≡ awaits_turns self.old deposits }
     {

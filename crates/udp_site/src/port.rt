@@ -41,8 +41,9 @@ pub trait Port {
         ensures failures { failures self.new ≡ failures self.old }
     {}
 
-    /// After a batch so many deposits of the site wait that it hasn't proposed yet, as far as they
-    /// were counted. A port may have as many turns idle at once as the site needs to propose them.
+    /// So many deposits of the site wait that it hasn't proposed yet, as far as they were counted:
+    /// before a batch is synced, and after it. A port may have as many turns idle at once as the
+    /// site needs to propose them.
     fn awaits_turns(&mut self, _deposits: u32)
         ensures traffic { traffic self.new ≡ traffic self.old }
         ensures failures { failures self.new ≡ failures self.old }

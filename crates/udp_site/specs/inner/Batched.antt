@@ -65,6 +65,13 @@ JoinsMore before after old new carried =
     (more : List Taken) × (map taken new ≡ map taken old ++ more)
     × Grows before after (map Took (more ++ option_to_list (carried_of carried)))
 
+-- where nothing was carried, these joined a batch whose turns were taken
+abbrev pub JoinsLater : (before after : Option (List Move)) → (was carried : Option Turn)
+    → (old new : List Turn) → Type 0
+JoinsLater before after None carried old new = JoinsMore before after old new carried
+JoinsLater before after (Some turn) carried old new =
+    (new ≡ old) × (carried ≡ Some turn) × Grows before after []
+
 -- the receive failed; or memory ran out before it
 abbrev pub TakesNone : (before after : Option (List Move)) → (old new : Option Turn) → ServeFault
     → Type 0
