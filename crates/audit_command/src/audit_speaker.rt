@@ -3,8 +3,8 @@
 use crate::arguments::AuditTask;
 use crate::conflict_cells::{Conflict, push_names};
 use crate::foreign_cell::{foreign_at, push_foreign};
-use code_words::{OTHERS, push_name};
-use file_words::{LineSpeaker, push_other_file, say_text};
+use code_words::{LineSpeaker, OTHERS, push_name, say_text};
+use file_words::push_other_file;
 use ledger::LiveCell;
 use std::alloc::AllocError;
 use words::push_escaped;

@@ -11,9 +11,8 @@ use crate::audit_speaker::AuditSpeaker;
 use crate::cell_files::CellFiles;
 use crate::cells_audit::audit_on;
 use crate::disk_cells::DiskCells;
-use code_words::{Asked, SpokenOutput};
+use code_words::{Asked, AskedSpeaker, SpokenLines};
 use counted_writes::{CountedWrite, CountedWriter};
-use file_words::SpokenLines;
 use json_lines::JsonLines;
 use members_file::MemberSites;
 use outcomes::ProgramFault;
@@ -73,19 +72,11 @@ pub fn audit_task_on<F: CellFiles, W: CountedWrite>(
 
 // Writes why no cell is read, and says it in words if they are asked for.
 fn refuse(rt: &HostRuntime, task: &AuditTask<'_>, stop: Stop) -> Result<u8, ProgramFault> {
-    let asked = Asked {
-        members: task.members,
-        key: None,
-        site: 0,
-        cell: None,
-        existing: false,
-        listens: None,
-        bags: None,
-        path: None,
-        wait: 0,
-        until_known: None,
-    };
-    let asked = if task.words { Some(asked) } else { None };
+    let speaker = AskedSpeaker::if_asked(rt, task.words, Asked::of_members(task.members));
     let output = JsonLines::new(rt.alloc(), task.json, io::writer(rt));
-    write_stop(rt.alloc(), &mut SpokenOutput::new(rt, asked, output), stop)
+    write_stop(
+        rt.alloc(),
+        &mut SpokenLines::new(rt.alloc(), speaker, output),
+        stop,
+    )
 }

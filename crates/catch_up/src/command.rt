@@ -5,9 +5,8 @@ use crate::clock_timer::ClockTimer;
 use crate::rounds::{Target, catch_up_on};
 use crate::sites::{SiteToAsk, Sites, sites_for};
 use crate::version_speaker::VersionSpeaker;
-use code_words::{Asked, SpokenOutput};
+use code_words::{Asked, AskedSpeaker, SpokenLines};
 use counted_writes::CountedWriter;
-use file_words::SpokenLines;
 use json_lines::JsonLines;
 use known_bags::{DiskSources, KnownBag, push_sources, write_fault};
 use outcomes::ProgramFault;
@@ -41,20 +40,17 @@ pub fn catch_up_site(rt: &HostRuntime, task: &CatchUpTask<'_>) -> Result<u8, Pro
 // Writes why nobody can be asked, and says it in words if they are asked for.
 fn refuse(rt: &HostRuntime, task: &CatchUpTask<'_>, stop: Stop) -> Result<u8, ProgramFault> {
     let asked = Asked {
-        members: task.members,
         key: task.key,
         site: task.to.number(),
-        cell: None,
-        existing: false,
-        listens: None,
-        bags: None,
-        path: None,
-        wait: task.wait,
-        until_known: None,
+        ..Asked::of_members(task.members)
     };
-    let asked = if task.words { Some(asked) } else { None };
+    let speaker = AskedSpeaker::if_asked(rt, task.words, asked);
     let output = JsonLines::new(rt.alloc(), task.json, io::writer(rt));
-    write_stop(rt.alloc(), &mut SpokenOutput::new(rt, asked, output), stop)
+    write_stop(
+        rt.alloc(),
+        &mut SpokenLines::new(rt.alloc(), speaker, output),
+        stop,
+    )
 }
 
 fn ask_all<W: Write + Drop>(

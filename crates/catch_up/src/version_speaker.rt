@@ -3,7 +3,8 @@
 
 use crate::arguments::CatchUpTask;
 use code_words::{meaning_of_line, push_name};
-use file_words::{LineSpeaker, first_piped, push_empty, push_file_words, push_gone, say_text};
+use code_words::{LineSpeaker, say_text};
+use file_words::{first_piped, push_empty, push_file_words, push_gone};
 use known_bags::{DiskSources, push_source};
 use std::alloc::AllocError;
 

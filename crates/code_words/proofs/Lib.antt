@@ -1,3 +1,4 @@
 mod FirstRow
 mod OtherWords
 mod Tables
+mod Writes

@@ -7,12 +7,14 @@ pub static OPEN: [Meaning; 6] = [
     Meaning {
         code: "open 1",
         words: "the cell is that of another federation",
-        advice: "find the right one, and never delete this one",
+        advice: "find the right one, and never delete this one; only a site that has never served \
+            may begin with a new one",
     },
     Meaning {
         code: "open 2",
         words: "the cell is that of another site",
-        advice: "find the right one, and never delete this one",
+        advice: "find the right one, and never delete this one; only a site that has never served \
+            may begin with a new one",
     },
     Meaning {
         code: "open 3",

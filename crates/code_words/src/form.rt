@@ -53,7 +53,7 @@ pub(crate) static FORMS: [Form; 13] = [
     },
     Form {
         name: "deliver",
-        takes: "a number",
+        takes: "the number of one datagram",
         kinds: &[Kind::Number],
         has_fate: true,
     },

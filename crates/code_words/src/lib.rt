@@ -13,6 +13,7 @@
 #![tactic(auto)]
 
 mod asked;
+mod asked_speaker;
 mod bag_codes;
 mod cell_codes;
 mod cell_reason;
@@ -28,6 +29,7 @@ mod kind;
 mod line_kind;
 mod line_name;
 mod line_reason;
+mod line_speaker;
 mod meaning;
 mod members_line;
 mod members_reason;
@@ -42,13 +44,14 @@ mod row;
 mod schedule_codes;
 mod schedule_command;
 mod schedule_line;
-mod spoken_output;
+mod spoken_lines;
 mod table;
 mod text_lines;
 mod utf16;
 mod word_text;
 
 pub use asked::Asked;
+pub use asked_speaker::AskedSpeaker;
 pub use bag_codes::{INVALID, UNREAD, invalid, unread};
 pub use cell_codes::{OPEN, STOPPED};
 pub use cell_reason::NO_CELL;
@@ -56,6 +59,7 @@ pub use file_kind::{FileKind, kind_at, kind_of};
 pub use file_reason::push_error;
 pub use file_start::{CELL_START, MARK, SYNCED, first_bytes};
 pub use line_name::{is_key_line, push_line_name};
+pub use line_speaker::{LineSpeaker, say_text};
 pub use meaning::Meaning;
 pub use name::{push_name, push_path, push_quoted};
 pub use of_line::meaning_of_line;
@@ -66,6 +70,6 @@ pub use place_word::push_place_words;
 pub use refusal_codes::REFUSED;
 pub use schedule_codes::SKIPPED;
 pub use schedule_line::push_schedule_words;
-pub use spoken_output::SpokenOutput;
+pub use spoken_lines::SpokenLines;
 pub use table::push_table;
 pub use word_text::push_found;

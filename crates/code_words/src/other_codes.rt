@@ -112,8 +112,9 @@ pub static OTHERS: [Meaning; 30] = [
     },
     Meaning {
         code: "socket",
-        words: "the port can't be had: another process has it",
-        advice: "find that process: `ss -lunp`",
+        words: "the port or the address can't be had: another process has it, or the machine \
+            hasn't that address",
+        advice: "`ss -lunp` shows the processes, and `ip address` the addresses",
     },
     Meaning {
         code: "torn BYTES",

@@ -8,7 +8,7 @@ use std::alloc::{AllocError, Global};
 use words::split_words;
 
 /// Appends what is wrong with the line of this number, counted from 1, the first at fault in a text
-/// that is no schedule: `line 4: deliver takes a number; found ..`.
+/// that is no schedule: `line 4: deliver takes the number of one datagram; found ..`.
 pub fn push_schedule_words(
     alloc: Global,
     text: &mut String,

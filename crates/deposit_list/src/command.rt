@@ -8,9 +8,9 @@ use crate::deposit_speaker::DepositSpeaker;
 use crate::progress::Progress;
 use crate::send_all::send_all_on;
 use catch_up::{ClockTimer, SiteToAsk, Sites, Target, sites_for};
-use code_words::{Asked, SpokenOutput};
+use code_words::{Asked, AskedSpeaker, SpokenLines};
 use counted_writes::CountedWriter;
-use file_words::{SpokenLines, say_no_line};
+use file_words::say_no_line;
 use outcomes::{ProgramFault, ReadFault, read_all, write_output};
 use site_commands::{Stop, write_stop};
 use std::fs::File;
@@ -90,21 +90,14 @@ fn send_to_site<W: Write + Drop>(
 // Writes why nothing can be sent, and says it in words if they are asked for.
 fn refuse(rt: &HostRuntime, task: &DepositsTask<'_>, stop: Stop) -> Result<u8, ProgramFault> {
     let asked = Asked {
-        members: task.members,
         key: task.key,
         site: task.to.number(),
-        cell: None,
-        existing: false,
-        listens: None,
-        bags: None,
-        path: None,
-        wait: task.wait,
-        until_known: None,
+        ..Asked::of_members(task.members)
     };
-    let asked = if task.words { Some(asked) } else { None };
+    let speaker = AskedSpeaker::if_asked(rt, task.words, asked);
     write_stop(
         rt.alloc(),
-        &mut SpokenOutput::new(rt, asked, io::writer(rt)),
+        &mut SpokenLines::new(rt.alloc(), speaker, io::writer(rt)),
         stop,
     )
 }

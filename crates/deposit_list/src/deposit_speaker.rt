@@ -4,8 +4,7 @@
 use crate::arguments::DepositsTask;
 use crate::line_fault::push_line_fault;
 use crate::listed_path::path_in;
-use code_words::{meaning_of_line, push_error, push_name};
-use file_words::{LineSpeaker, say_text};
+use code_words::{LineSpeaker, meaning_of_line, push_error, push_name, say_text};
 use std::alloc::AllocError;
 use std::fs::{self, File};
 

@@ -1,10 +1,9 @@
 //! What is said of a file that is read.
 
 use crate::file_reason::{no_list, other_file, push_reason, push_unread};
-use crate::line_speaker::{LineSpeaker, say_text};
 use crate::other_list::other_list;
 use crate::piped::{path_to_read, push_source_name};
-use code_words::{meaning_of_line, push_name};
+use code_words::{LineSpeaker, meaning_of_line, push_name, say_text};
 use std::alloc::AllocError;
 use std::fs;
 

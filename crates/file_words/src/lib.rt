@@ -11,14 +11,10 @@
 mod empty_files;
 mod file_reason;
 mod file_speaker;
-mod line_speaker;
 mod other_list;
 mod piped;
-mod spoken_lines;
 
 pub use empty_files::push_empty;
 pub use file_reason::push_other_file;
 pub use file_speaker::{FileSpeaker, push_file_words, say_if_empty, say_no_line};
-pub use line_speaker::{LineSpeaker, say_text};
 pub use piped::{first_piped, is_piped, push_gone, push_source_name};
-pub use spoken_lines::SpokenLines;

@@ -2,7 +2,8 @@
 
 use crate::journal::journal_on;
 use crate::journal_arguments::JournalTask;
-use file_words::{FileSpeaker, SpokenLines, say_if_empty};
+use code_words::SpokenLines;
+use file_words::{FileSpeaker, say_if_empty};
 use json_lines::JsonLines;
 use ledger::LiveCell;
 use outcomes::{ProgramFault, write_output};

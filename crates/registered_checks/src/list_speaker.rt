@@ -1,6 +1,7 @@
 //! Why a list or a cell can't be compared with.
 
-use file_words::{LineSpeaker, push_file_words, say_text};
+use code_words::{LineSpeaker, say_text};
+use file_words::push_file_words;
 use std::alloc::AllocError;
 
 /// What says the line of a list or cell that can't be used. The lines of folders are said elsewhere.

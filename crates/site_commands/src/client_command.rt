@@ -8,7 +8,7 @@ use crate::send_arguments::SendTask;
 use crate::stop::{Stop, write_stop};
 use crate::udp_socket::client_socket;
 use crate::until_known::send_until_known;
-use code_words::{Asked, SpokenOutput};
+use code_words::{Asked, AskedSpeaker, SpokenLines};
 use dgram::FolderPath;
 use fed_types::Slot;
 use outcomes::ProgramFault;
@@ -30,21 +30,17 @@ pub fn send_to_site(rt: &HostRuntime, task: &SendTask<'_>) -> Result<u8, Program
 fn output_of<'a>(
     rt: &'a HostRuntime,
     task: &SendTask<'a>,
-) -> SpokenOutput<'a, Printer<'a, HostRuntime>> {
+) -> SpokenLines<Printer<'a, HostRuntime>, AskedSpeaker<'a>> {
     let asked = Asked {
-        members: task.members,
         key: task.key,
         site: task.to.number(),
-        cell: None,
-        existing: false,
-        listens: None,
-        bags: None,
         path: task.path,
         wait: task.wait,
         until_known: task.until_known,
+        ..Asked::of_members(task.members)
     };
-    let asked = if task.words { Some(asked) } else { None };
-    SpokenOutput::new(rt, asked, io::writer(rt))
+    let speaker = AskedSpeaker::if_asked(rt, task.words, asked);
+    SpokenLines::new(rt.alloc(), speaker, io::writer(rt))
 }
 
 // What came of it, or why nothing was sent.

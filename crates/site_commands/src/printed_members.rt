@@ -5,7 +5,7 @@ use crate::member_words::sites_in;
 use crate::members_arguments::MembersTask;
 use crate::printed_keys::{make_keys, print_keys};
 use crate::stop::{Stop, write_stop};
-use code_words::{Asked, SpokenOutput};
+use code_words::{Asked, AskedSpeaker, SpokenLines};
 use json_lines::JsonLines;
 use members_file::{MemberSites, digest_of, new_list};
 use outcomes::{ProgramFault, write_output};
@@ -86,9 +86,9 @@ pub(crate) fn print_text(
     task: &MembersTask<'_>,
     text: Result<String, Stop>,
 ) -> Result<u8, ProgramFault> {
-    let asked = if task.words { Some(asked(task)) } else { None };
+    let speaker = AskedSpeaker::if_asked(rt, task.words, asked(task));
     let lines = JsonLines::new(rt.alloc(), task.json, io::writer(rt));
-    let mut output = SpokenOutput::new(rt, asked, lines);
+    let mut output = SpokenLines::new(rt.alloc(), speaker, lines);
     match text {
         Ok(text) => write_output(&mut output, 0, text.as_str()),
         Err(stop) => write_stop(rt.alloc(), &mut output, stop),
@@ -98,15 +98,7 @@ pub(crate) fn print_text(
 // What words may speak of: these files alone.
 fn asked<'a>(task: &MembersTask<'a>) -> Asked<'a> {
     Asked {
-        members: task.file.unwrap_or_default(),
         key: task.key.or(task.new_key),
-        site: 1,
-        cell: None,
-        existing: false,
-        listens: None,
-        bags: None,
-        path: None,
-        wait: 0,
-        until_known: None,
+        ..Asked::of_members(task.file.unwrap_or_default())
     }
 }

@@ -18,7 +18,7 @@ use crate::udp_socket::site_socket;
 use addresses::Address;
 use bag_folders::{Folders, RememberingFolders};
 use cell_file::{DiskCell, path_beside};
-use code_words::{Asked, SpokenOutput};
+use code_words::{Asked, AskedSpeaker, SpokenLines};
 use fed_types::Members;
 use outcomes::ProgramFault;
 use records::Owner;
@@ -164,21 +164,19 @@ fn output_of<'a, 'l, 's>(
     rt: &'a HostRuntime,
     task: &SiteTask<'a>,
     log: Option<&'l SiteLog<'s>>,
-) -> SpokenOutput<'a, SiteOutput<'a, 'l, 's>> {
+) -> SpokenLines<SiteOutput<'a, 'l, 's>, AskedSpeaker<'a>> {
     let asked = Asked {
-        members: task.members,
         key: task.key,
         site: task.number.number(),
         cell: Some(task.cell),
         existing: task.existing,
         listens: task.listen,
         bags: task.bags,
-        path: None,
         wait: task.waits.first,
-        until_known: None,
+        ..Asked::of_members(task.members)
     };
-    let asked = if task.words { Some(asked) } else { None };
-    SpokenOutput::new(rt, asked, SiteOutput::new(rt, task.quiet, log))
+    let speaker = AskedSpeaker::if_asked(rt, task.words, asked);
+    SpokenLines::new(rt.alloc(), speaker, SiteOutput::new(rt, task.quiet, log))
 }
 
 /// What a site serves with.

@@ -4,9 +4,9 @@ use crate::arguments::StatusTask;
 use crate::files::known_by;
 use crate::sites::{Federation, federation_at};
 use crate::standing_speaker::StandingSpeaker;
-use code_words::{Asked, SpokenOutput};
+use code_words::{Asked, AskedSpeaker, SpokenLines};
 use counted_writes::{CountedWriter, write_output};
-use file_words::{SpokenLines, first_piped};
+use file_words::first_piped;
 use json_lines::JsonLines;
 use known_bags::write_fault;
 use outcomes::ProgramFault;
@@ -93,18 +93,14 @@ fn show_once(rt: &HostRuntime, task: &StatusTask<'_>) -> Result<Ended, ProgramFa
 // Writes why nobody can be asked, and says it in words if they are asked for.
 fn refuse(rt: &HostRuntime, task: &StatusTask<'_>, stop: Stop) -> Result<u8, ProgramFault> {
     let asked = Asked {
-        members: task.members,
         key: task.key,
-        site: 1,
-        cell: None,
-        existing: false,
-        listens: None,
-        bags: None,
-        path: None,
-        wait: task.wait,
-        until_known: None,
+        ..Asked::of_members(task.members)
     };
-    let asked = if task.words { Some(asked) } else { None };
+    let speaker = AskedSpeaker::if_asked(rt, task.words, asked);
     let output = JsonLines::new(rt.alloc(), task.json, io::writer(rt));
-    write_stop(rt.alloc(), &mut SpokenOutput::new(rt, asked, output), stop)
+    write_stop(
+        rt.alloc(),
+        &mut SpokenLines::new(rt.alloc(), speaker, output),
+        stop,
+    )
 }

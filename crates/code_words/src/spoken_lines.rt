@@ -1,8 +1,12 @@
 //! An output whose lines are said in words.
 
+ghost use Rattle.std.specs.Prelude.{◌≡◌, [], IfOk};
+ghost use Rattle.std.specs.Io.{WritesAtMost};
+ghost use Rattle.std.specs.Io.KnownBytes.{WriteAppends};
+
 use crate::line_speaker::LineSpeaker;
 use std::alloc::Global;
-use std::io::{Result, Write};
+use std::io::{Error, ErrorKind, Result, Write};
 use std::str;
 
 /// An output that has each line said in words, once it is written, where that is asked for.
@@ -22,7 +26,10 @@ struct Speech<S> {
 
 impl<W: Write, S: LineSpeaker> SpokenLines<W, S> {
     /// This output, with words if there is something that says them.
-    pub fn new(alloc: Global, speaker: Option<S>, output: W) -> SpokenLines<W, S> {
+    pub fn new(alloc: Global, speaker: Option<S>, output: W) -> SpokenLines<W, S>
+        ensures output { result.output ≡ output }
+        ensures speaker { result.speech.speaker ≡ speaker }
+    {
         let begun = Vec::new(alloc);
         SpokenLines {
             output,
@@ -34,8 +41,18 @@ impl<W: Write, S: LineSpeaker> SpokenLines<W, S> {
 impl<W: Write, S: LineSpeaker> Write for SpokenLines<W, S> {
     ghost contents = { λ o. W.contents o.output };
 
-    fn write(&mut self, buf: &[u8]) -> Result<usize> {
+    // Of bytes some are written, or it fails.
+    #[tactic(auto, using(crate::proofs::Writes::keeps_by_none))]
+    fn write(&mut self, buf: &[u8]) -> Result<usize>
+        ensures bound { WritesAtMost result buf.now }
+        ensures bytes { WriteAppends (W.contents self.old.output) (W.contents self.new.output)
+            result buf.now }
+        ensures some { IfOk result (λ count. count ≡ 0 → buf.now ≡ []) }
+    {
         let count = self.output.write(buf)?;
+        if count == 0 && !buf.is_empty() {
+            return Err(Error::from(ErrorKind::WriteZero));
+        }
         self.speech.take(&buf[..count]);
         Ok(count)
     }
