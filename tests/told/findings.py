@@ -26,7 +26,7 @@ REASONS = {
     "absent": "isn't there",
     "no right": "may not be read by this user",
     "no folder": "isn't a folder",
-    "not UTF-8": "has an entry whose name isn't UTF-8; rename that",
+    "not UTF-8": "has an entry whose name isn't UTF-8, as `ls -b` shows; rename that",
     "link": "is a link; put a copy of what it leads to in its place",
     "special": "is a pipe, a socket or a device, and a bag has files and folders",
     "deep": f"has more than {MOST_PARTS} parts",
@@ -295,6 +295,8 @@ class Words:
         else:
             why = {3: "; versions 1.0 and 0.97 are read",
                    4: "; the encoding that is read is UTF-8"}[it.number]
+        if self.line_at(it).startswith(b"\xef\xbb\xbf"):
+            why += "; it begins with a byte order mark: save it without"
         return f"bagit.txt line {it.line} is {shown_line(self.line_at(it))}{why}"
 
     def no_manifest(self, _):
@@ -378,10 +380,14 @@ class Words:
         found = [it for it in READ if f"manifest-{it}.txt" in self.files]
         if not numbers or numbers - {5, 7, 8} or not found:
             return
-        why = "it has a manifest that isn't read here"
-        why = "no bag with a fetch.txt is taken here" if 5 in numbers else why
+        if 8 in numbers:
+            yield ("RFC 8493: not known, since a manifest isn't read here; nothing is wrong by "
+                   f"those that are ({' '.join(found)})")
+            return
+        why = "no bag with a fetch.txt is taken here"
         why = "it has no identity here: no manifest-sha512.txt" if 7 in numbers else why
-        yield f"RFC 8493: valid ({' '.join(found)}), but {why}"
+        unless = ", if its fetch.txt lists no other files" if 5 in numbers else ""
+        yield f"RFC 8493: valid ({' '.join(found)}){unless}, but {why}"
 
     # ---- warnings
 
@@ -421,7 +427,9 @@ class Words:
             lines = [one for one in lines_of(self.files[f"tagmanifest-{it}.txt"]) if one.strip()]
             form = re.compile(rb"[0-9A-Fa-f]{%d}[ \t]+([*]|)(\./|)(.*)" % DIGITS[it])
             found = [form.fullmatch(one) for one in lines]
-            listed |= {one[3].decode() for one in found} if all(found) else set()
+            if not all(found):
+                return
+            listed |= {one[3].decode() for one in found}
         for path in self.files if tags else ():
             if not path.startswith(("data/", "tagmanifest-")) and path not in listed:
                 yield f"no tag manifest lists {shown(path)}, so a change to it would go unnoticed"

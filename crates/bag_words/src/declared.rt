@@ -2,6 +2,7 @@
 
 use crate::finding::Finding;
 use crate::manifest_line::push_shown;
+use code_words::MARK;
 use std::alloc::AllocError;
 
 /// Appends what the line of bagit.txt is, and what it has to be.
@@ -19,5 +20,9 @@ pub(crate) fn push_declared(
         (_, 1) => "; it has to be \"BagIt-Version: 1.0\"",
         (_, 2) => "; it has to be \"Tag-File-Character-Encoding: UTF-8\"",
         _ => "; there are two lines only",
-    })
+    })?;
+    if line.starts_with(MARK) {
+        return text.push_str("; it begins with a byte order mark: save it without");
+    }
+    Ok(())
 }

@@ -130,7 +130,24 @@ fn push_line_end(text: &mut String, folder: &str) -> Result<(), AllocError> {
             each name",
         );
     }
+    if is_answer(folder) {
+        return text.push_str(
+            "; it ends as a line of `check --named` does, and a list has names alone",
+        );
+    }
     Ok(())
+}
+
+// Whether a name ends as a line with the answer of a check.
+fn is_answer(name: &str) -> bool {
+    let Some((front, last)) = name.rsplit_once(' ') else {
+        return false;
+    };
+    match front.rsplit(' ').next() {
+        Some("valid" | "complete") => last.len() == 128,
+        Some("invalid" | "unread") => last.parse::<u8>().is_ok(),
+        _ => false,
+    }
 }
 
 // The lines of what is wrong, as far as it is wanted.

@@ -6,8 +6,8 @@ use bag_check::Kind;
 use std::alloc::AllocError;
 
 /// Appends that the bag is valid by RFC 8493, if it is, and is still refused here, since it has a
-/// fetch.txt, no manifest-sha512.txt, or manifests that aren't read. Where a file wasn't read, or no
-/// digest was asked for, nobody knows that.
+/// fetch.txt or no manifest-sha512.txt. Where it has manifests that aren't read, only what the others
+/// say is known; and where a file wasn't read, or no digest was asked for, nothing is.
 pub(crate) fn push_rfc(
     text: &mut String,
     bag: &Bag<'_, '_>,
@@ -33,22 +33,25 @@ pub(crate) fn push_rfc(
     if algorithms.is_empty() {
         return Ok(());
     }
-    writeln!(
-        text,
-        "RFC 8493: valid ({algorithms}), but {}",
-        reason_of(findings)
-    )
-}
-
-// Why it is refused here: the last of the faults in their order that says so.
-fn reason_of(findings: &[Finding<'_>]) -> &'static str {
-    if has(findings, 7) {
-        return "it has no identity here: no manifest-sha512.txt";
+    if has(findings, 8) {
+        return writeln!(
+            text,
+            "RFC 8493: not known, since a manifest isn't read here; nothing is wrong by those that \
+            are ({algorithms})"
+        );
     }
-    if has(findings, 5) {
-        return "no bag with a fetch.txt is taken here";
-    }
-    "it has a manifest that isn't read here"
+    let reason = if has(findings, 7) {
+        "it has no identity here: no manifest-sha512.txt"
+    } else {
+        "no bag with a fetch.txt is taken here"
+    };
+    // What a fetch.txt lists has to be there, and isn't read here.
+    let unless = if has(findings, 5) {
+        ", if its fetch.txt lists no other files"
+    } else {
+        ""
+    };
+    writeln!(text, "RFC 8493: valid ({algorithms}){unless}, but {reason}")
 }
 
 fn has(findings: &[Finding<'_>], number: u8) -> bool {

@@ -34,7 +34,8 @@ pub(crate) fn push_tag_files(
     Ok(())
 }
 
-/// The paths that tag manifests list; none where there is no tag manifest.
+/// The paths that tag manifests list; none where there is no tag manifest, or nobody knows what one
+/// lists.
 fn listed_by_tags(bag: &Bag<'_, '_>) -> Result<Option<BTreeSet<String>>, AllocError> {
     let alloc = bag.rt.alloc();
     let mut listed = BTreeSet::new(alloc);
@@ -44,10 +45,11 @@ fn listed_by_tags(bag: &Bag<'_, '_>) -> Result<Option<BTreeSet<String>>, AllocEr
             continue;
         };
         is_there = true;
-        if let Ok(entries) = manifest(alloc, algorithm, text) {
-            for entry in entries {
-                listed.insert(String::from_str(alloc, entry.path())?)?;
-            }
+        let Ok(entries) = manifest(alloc, algorithm, text) else {
+            return Ok(None);
+        };
+        for entry in entries {
+            listed.insert(String::from_str(alloc, entry.path())?)?;
         }
     }
     Ok(if is_there { Some(listed) } else { None })

@@ -83,7 +83,7 @@ impl Reason {
             Reason::Dangling => "is a link, and what it leads to isn't there",
             Reason::NoRight => "may not be read by this user",
             Reason::NoFolder => "isn't a folder",
-            Reason::NotUtf8 => "has an entry whose name isn't UTF-8; rename that",
+            Reason::NotUtf8 => "has an entry whose name isn't UTF-8, as `ls -b` shows; rename that",
             Reason::LongName => "can't be read: its name is too long for this disk",
             Reason::ZeroBytes => "has zero bytes, and so no folder has this name",
             Reason::Circle => "can't be read: its links lead in a circle, and to no file",
@@ -105,15 +105,39 @@ pub(crate) fn push_unread_places(
 ) -> Result<(), AllocError> {
     for place in places {
         text.push_str("  ")?;
-        if place.path.as_str() == "." {
-            push_line_name(text, folder)?;
+        let is_folder = place.path.as_str() == ".";
+        if is_folder {
+            push_folder_name(text, folder)?;
         } else {
             push_name(text, place.path.as_str())?;
         }
         let words = place.reason.words();
-        writeln!(text, " {words}")?;
+        write!(text, " {words}")?;
+        if is_folder && place.reason == Reason::Absent && has_escape(folder) {
+            text.push_str("; a name is taken as it is, and `%20` in it stands for no blank")?;
+        }
+        text.push('\n')?;
     }
     Ok(())
+}
+
+// Appends the folder's name, which may be the line of a list; between quotes where its end couldn't
+// be seen.
+fn push_folder_name(text: &mut String, folder: &str) -> Result<(), AllocError> {
+    if folder.starts_with(' ') || folder.ends_with(' ') {
+        text.push('"')?;
+        push_line_name(text, folder)?;
+        return text.push('"');
+    }
+    push_line_name(text, folder)
+}
+
+// Whether a percent sign and two digits of hex stand in a name.
+fn has_escape(name: &str) -> bool {
+    name.split('%').skip(1).any(|rest| match rest.as_bytes() {
+        [first, second, ..] => first.is_ascii_hexdigit() && second.is_ascii_hexdigit(),
+        _ => false,
+    })
 }
 
 /// The paths of places.

@@ -182,14 +182,15 @@ fn word_of<'a>(words: &'a [String], beginning: &'a str) -> &'a str {
     beginning
 }
 
-// The name of the command's option that this word is, but for a hyphen; its value may follow.
+// The name of the command's option that this word is, but for a hyphen; its value may follow. Of a
+// letter alone it is the one option that begins with it.
 fn short_option<'a>(word: &'a str, usage: &Usage) -> Option<&'a str> {
     let option = word.strip_prefix('-')?;
     let name = option.split_once('=').map_or(option, |(name, _)| name);
     if usage.has_option(name) {
         Some(name)
     } else {
-        None
+        usage.option_of_letter(name)
     }
 }
 

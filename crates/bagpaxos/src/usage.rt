@@ -21,6 +21,22 @@ impl Usage {
         self.takes_value(name) || has_word(self.flags, name)
     }
 
+    /// The name of its one option that begins with this letter, if there is just one.
+    pub(crate) fn option_of_letter(&self, letter: &str) -> Option<&'static str> {
+        if letter.len() != 1 {
+            return None;
+        }
+        let mut names = self
+            .valued
+            .split(' ')
+            .chain(self.flags.split(' '))
+            .filter(|name| name.starts_with(letter));
+        match (names.next(), names.next()) {
+            (Some(name), None) => Some(name),
+            _ => None,
+        }
+    }
+
     /// Whether it has one that takes a value.
     pub(crate) fn takes_value(&self, name: &str) -> bool {
         has_word(self.valued, name)

@@ -1,9 +1,9 @@
 //! The arguments of the command `catch-up`.
 
-use clap::{Arg, ArgAction, ArgMatches, Command, value_parser};
+use clap::{Arg, ArgMatches, Command, value_parser};
 use fed_types::SiteNo;
 use json_lines::json_argument;
-use site_commands::{key_argument, members_argument, to_argument, wait_argument};
+use site_commands::{answer_argument, key_argument, members_argument, to_argument, words_argument};
 use std::alloc::{AllocError, Global};
 
 const ABOUT: &str = "Asks a site for all that others know, until it knows that too";
@@ -115,13 +115,6 @@ fn with_site<'a>(alloc: Global, command: Command<'a>) -> Result<Command<'a>, All
         .arg(answer_argument(alloc))
 }
 
-fn answer_argument<'a>(alloc: Global) -> Arg<'a> {
-    wait_argument(alloc)
-        .required(false)
-        .default_value("1000")
-        .help("Milliseconds for an answer, 1 to 60000")
-}
-
 fn for_argument<'a>(alloc: Global) -> Arg<'a> {
     Arg::new(alloc, "for")
         .long("for")
@@ -129,13 +122,6 @@ fn for_argument<'a>(alloc: Global) -> Arg<'a> {
         .default_value("60")
         .value_parser(value_parser!(u32).range(1..))
         .help("How long it asks, 1 to 4294967295")
-}
-
-fn words_argument<'a>(alloc: Global) -> Arg<'a> {
-    Arg::new(alloc, "words")
-        .long("words")
-        .action(ArgAction::SetTrue)
-        .help("Say in words, on standard error, what codes say")
 }
 
 fn files_argument<'a>(alloc: Global) -> Arg<'a> {

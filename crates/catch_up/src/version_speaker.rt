@@ -2,8 +2,7 @@
 //! used.
 
 use crate::arguments::CatchUpTask;
-use code_words::{meaning_of_line, push_name};
-use code_words::{LineSpeaker, say_text};
+use code_words::{LineSpeaker, meaning_of_line, push_name, say_text};
 use file_words::{first_piped, push_empty, push_file_words, push_gone};
 use known_bags::{DiskSources, push_source};
 use std::alloc::AllocError;

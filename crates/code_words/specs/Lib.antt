@@ -4,3 +4,9 @@ pub mod Codes
 pub mod Rows
 pub mod Lines
 pub mod Tables
+pub mod FileKinds
+pub mod Pairs
+pub mod Keys
+pub mod Words
+pub mod PlaceWords
+pub mod Kinds

@@ -1,10 +1,10 @@
 -- How a name is shown to a person.
-use Rattle.std.specs.Prelude.{ℕ, Bool, false, ◌||◌, if◌then◌else◌, List, [], ◌∷◌, ◌++◌}
-use Rattle.std.specs.Prelude.{codes, encode_utf8}
+use Rattle.std.specs.Prelude.{ℕ, ◌==◌, Bool, false, ◌||◌, if◌then◌else◌, List, [], ◌∷◌, ◌++◌}
+use Rattle.std.specs.Prelude.{length, codes, encode_utf8}
 use Rattle.std.specs.Char.{is_control}
 use Rattle.std.specs.Int.{is_in_range}
-use Rattle.std.specs.Fmt.{radix_digits}
-use Rattle.std.specs.List.{flat_map, list_any}
+use Rattle.std.specs.Fmt.{decimal, radix_digits}
+use Rattle.std.specs.List.{flat_map, list_any, starts_with}
 use Rattle.std.specs.Str.{chars}
 use Rattle.code_words.specs.declared.name.Span.{Span}
 
@@ -44,3 +44,19 @@ shown_name name = flat_map shown (chars name)
 -- the same between quotes
 abbrev pub quoted_name : List ℕ → List ℕ
 quoted_name name = 34 ∷ (shown_name name ++ 34 ∷ [])
+
+-- how a site reads a folder: a path that begins with a slash as it is, another one from a folder
+abbrev pub read_from : (path : List ℕ) → List ℕ
+read_from path =
+    if starts_with (λ a b. a == b) path (codes "/")
+    then codes " reads it: "
+    else codes " reads it from its own folder, or that of its option --bags: "
+
+-- the folder of a deposit, and the site that reads it
+unfoldable pub deposited : (site : ℕ) → (path : List ℕ) → List ℕ
+deposited site path =
+    shown_name path ++ (codes ", as site " ++ (decimal site ++ read_from path))
+
+-- the path that an argument names; of an empty one that it is empty
+abbrev pub path_text : List ℕ → List ℕ
+path_text path = if length path == 0 then codes "an empty name" else shown_name path

@@ -52,7 +52,8 @@ pub static INVALID: [Meaning; 15] = [
     },
     Meaning {
         code: "invalid 9",
-        words: "a line of a manifest isn't a digest, blanks and a path",
+        words: "a line of a manifest isn't a digest, blanks and a path, so none of its lines is \
+            compared",
         advice: "write it as it was meant, and keep the old manifest",
     },
     Meaning {

@@ -1,5 +1,14 @@
 //! What kind of file the first bytes are.
 
+ghost use Rattle.std.specs.Prelude.{◌≡◌, None, if◌then◌else◌};
+ghost use Rattle.std.specs.Char.{is_ascii_whitespace};
+ghost use Rattle.std.specs.List.{list_all};
+ghost use Rattle.std.specs.Option.{option_copied};
+ghost use Rattle.code_words.specs.FileKinds.{name_of, said_of, is_no_key};
+ghost use Rattle.std.specs.Str.{is_utf8};
+ghost use Rattle.code_words.specs.FileKinds.{kind_of, kind_of_line, kind_shown};
+ghost use Rattle.code_words.specs.FileKinds.{line_showing, shows_kind};
+
 use crate::file_reason::is_piped;
 use crate::file_start::{CELL_START, MARK, SYNCED, first_bytes};
 use crate::line_kind::kind_of_line;
@@ -30,7 +39,9 @@ pub enum FileKind {
 
 impl FileKind {
     /// What it is, with its article.
-    pub fn name(self) -> &'static str {
+    pub fn name(self) -> &'static str
+        ensures { result.now ≡ name_of self }
+    {
         match self {
             FileKind::Empty => "empty",
             FileKind::Utf16 => "UTF-16: save it as UTF-8",
@@ -48,7 +59,9 @@ impl FileKind {
     }
 
     /// The same as a sentence, after a semicolon.
-    pub fn said(self) -> &'static str {
+    pub fn said(self) -> &'static str
+        ensures { result.now ≡ said_of self }
+    {
         match self {
             FileKind::Empty => "; it is empty",
             FileKind::Utf16 => "; it is UTF-16: save it as UTF-8",
@@ -66,7 +79,9 @@ impl FileKind {
     }
 
     /// Whether no key file is of this kind, however it was saved.
-    pub fn is_no_key(self) -> bool {
+    pub fn is_no_key(self) -> bool
+        ensures { result ≡ is_no_key self }
+    {
         !matches!(
             self,
             FileKind::Empty | FileKind::Utf16 | FileKind::Marked | FileKind::Key
@@ -92,7 +107,10 @@ pub fn kind_at(rt: &HostRuntime, path: &str) -> Option<FileKind> {
 
 /// What kind of file begins with these bytes. Of a text the first line that is neither blank nor a
 /// comment shows it.
-pub fn kind_of(bytes: &[u8]) -> Option<FileKind> {
+#[tactic(auto, unfolding(crate::specs::FileKinds::kind_of))]
+pub fn kind_of(bytes: &[u8]) -> Option<FileKind>
+    ensures { result ≡ kind_of bytes.now }
+{
     if bytes.is_empty() {
         return Some(FileKind::Empty);
     }
@@ -102,13 +120,48 @@ pub fn kind_of(bytes: &[u8]) -> Option<FileKind> {
     if bytes.starts_with(MARK) {
         return Some(FileKind::Marked);
     }
-    for line in bytes.split(|byte| *byte == b'\n') {
-        if is_utf16(line) {
-            return Some(FileKind::Utf16);
-        }
-        if !line.trim_ascii().is_empty() && !line.starts_with(b"#") {
-            return kind_of_line(str::from_utf8(line).ok()?);
-        }
+    kind_shown(line_showing(bytes)?)
+}
+
+fn line_showing(bytes: &[u8]) -> Option<&[u8]>
+    ensures { option_copied result ≡ line_showing bytes.now }
+{
+    bytes
+        .split(|byte| *byte == b'\n')
+        .find(|line| shows_kind(line))
+}
+
+// Whether a line shows what kind its text has: it is UTF-16, or neither blank nor a comment.
+#[tactic(auto, unfolding(crate::specs::FileKinds::shows_kind))]
+fn shows_kind(line: &[u8]) -> bool
+    ensures { result ≡ shows_kind line.now }
+{
+    is_utf16(line) || (!is_blank(line) && !line.starts_with(b"#"))
+}
+
+fn is_blank(line: &[u8]) -> bool
+    ensures { result ≡ list_all is_ascii_whitespace line.now }
+{
+    line.iter().all(|byte| byte.is_ascii_whitespace())
+}
+
+// The kind that it shows.
+#[tactic(auto, unfolding(crate::specs::FileKinds::kind_shown))]
+fn kind_shown(line: &[u8]) -> Option<FileKind>
+    ensures { result ≡ kind_shown line.now }
+{
+    if is_utf16(line) {
+        Some(FileKind::Utf16)
+    } else {
+        kind_of_bytes(line)
     }
-    None
+}
+
+fn kind_of_bytes(line: &[u8]) -> Option<FileKind>
+    ensures { result ≡ if is_utf8 line.now then kind_of_line line.now else None }
+{
+    match str::from_utf8(line) {
+        Ok(line) => kind_of_line(line),
+        Err(_) => None,
+    }
 }

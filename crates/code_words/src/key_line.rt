@@ -1,43 +1,79 @@
 //! Lines of a key file, and digits that may be a key's.
 
+ghost use Rattle.std.specs.Prelude.{◌≡◌, ◌<◌, ◌≤◌, length, IfSome, is_some, slice_get, map};
+ghost use Rattle.std.specs.Char.{is_ascii_hexdigit};
+ghost use Rattle.std.specs.List.{prefix_len};
+ghost use Rattle.std.specs.Option.{option_copied};
+ghost use Rattle.code_words.specs.Keys.{hidden_digits, pieces_of, is_key_name, key_name};
+
 /// So many digits in a row aren't shown: half of those of a key.
 const HIDDEN: usize = 64;
 
-/// What a line of a key file begins with.
-const KEY_NAMES: [&[u8]; 2] = [b"sites", b"clients"];
-
 /// Where the first digits of hex begin and end of which so many stand in a row that they may be a
 /// key's, if there are such.
-pub(crate) fn hidden_digits(bytes: &[u8]) -> Option<(usize, usize)> {
-    let mut begin = 0usize;
-    for (place, byte) in bytes.iter().enumerate() {
-        if !byte.is_ascii_hexdigit() {
-            if place.saturating_sub(begin) >= HIDDEN {
-                return Some((begin, place));
-            }
-            begin = place.saturating_add(1);
+pub(crate) fn hidden_digits(bytes: &[u8]) -> Option<(usize, usize)>
+    ensures value { result ≡ hidden_digits bytes.now }
+    ensures within { IfSome result (λ at. (at.0 < at.1) × (at.1 ≤ length bytes.now)) }
+{
+    let mut begin = 0;
+    while begin < bytes.len() {
+        let count = digits_before(&bytes[begin..]);
+        if count >= HIDDEN {
+            return Some((begin, begin + count));
         }
+        begin += count + 1;
     }
-    let end = bytes.len();
-    if end.saturating_sub(begin) >= HIDDEN {
-        Some((begin, end))
-    } else {
-        None
-    }
+    None
+}
+
+// How many digits of hex stand before anything else.
+fn digits_before(bytes: &[u8]) -> usize
+    ensures value { result ≡ prefix_len is_ascii_hexdigit bytes.now }
+    ensures within { result ≤ length bytes.now }
+{
+    bytes
+        .iter()
+        .take_while(|byte| byte.is_ascii_hexdigit())
+        .count()
 }
 
 /// The name that a line of a key file begins with, if these seem to be the words of such a line,
 /// whatever stands before, between and within them that is neither a letter nor a digit: blanks, a
 /// byte order mark, a quote, a sign of equality.
-pub(crate) fn key_name<'a>(words: &[&'a [u8]]) -> Option<&'a [u8]> {
-    let mut pieces = words
+#[tactic(auto, unfolding(crate::specs::Keys::key_name))]
+pub(crate) fn key_name<'a>(words: &[&'a [u8]]) -> Option<&'a [u8]>
+    ensures { option_copied result ≡ key_name (map (λ word. word.now) words.now) }
+{
+    match piece_of(words, 0) {
+        Some(name) if is_key_name(name) && has_second(words) => Some(name),
+        _ => None,
+    }
+}
+
+fn has_second(words: &[&[u8]]) -> bool
+    ensures { result ≡ is_some (slice_get (pieces_of (map (λ word. word.now) words.now)) 1) }
+{
+    match piece_of(words, 1) {
+        Some(_) => true,
+        None => false,
+    }
+}
+
+// The piece of words of this number, counted from 0, between what is neither a letter nor a digit.
+fn piece_of<'a>(words: &[&'a [u8]], number: usize) -> Option<&'a [u8]>
+    ensures { option_copied result
+        ≡ slice_get (pieces_of (map (λ word. word.now) words.now)) number }
+{
+    words
         .iter()
         .flat_map(|word| word.split(|byte| !byte.is_ascii_alphanumeric()))
-        .filter(|piece| !piece.is_empty());
-    let name = pieces.next()?;
-    if pieces.next().is_some() && KEY_NAMES.iter().any(|it| it.eq_ignore_ascii_case(name)) {
-        Some(name)
-    } else {
-        None
-    }
+        .filter(|piece| !piece.is_empty())
+        .nth(number)
+}
+
+// Whether a line of a key file begins so, in either letter case.
+fn is_key_name(name: &[u8]) -> bool
+    ensures { result ≡ is_key_name name.now }
+{
+    name.eq_ignore_ascii_case(b"sites") || name.eq_ignore_ascii_case(b"clients")
 }

@@ -1,5 +1,8 @@
 //! The kinds of words that commands take.
 
+ghost use Rattle.std.specs.Prelude.{◌≡◌};
+ghost use Rattle.code_words.specs.Kinds.{name_of, range_of};
+
 use hex::FromHexError;
 use std::alloc::{AllocError, Global};
 use words::{parse_number, parse_text};
@@ -28,7 +31,9 @@ pub(crate) enum Kind {
 
 impl Kind {
     /// What it is, with its article.
-    pub(crate) fn name(self) -> &'static str {
+    pub(crate) fn name(self) -> &'static str
+        ensures { result.now ≡ name_of self }
+    {
         match self {
             Kind::Federation => "a federation's number",
             Kind::Count => "a number of sites",
@@ -45,7 +50,9 @@ impl Kind {
     }
 
     /// Which words there are for it.
-    pub(crate) fn range(self) -> &'static str {
+    pub(crate) fn range(self) -> &'static str
+        ensures { result.now ≡ range_of self }
+    {
         match self {
             Kind::Federation => "0 to 18446744073709551615",
             Kind::Count => "1 to 63",

@@ -2,6 +2,7 @@
 
 use crate::asked::Asked;
 use crate::cell_reason::{other_file, push_cell_reason, push_other};
+use crate::deposited::push_deposited;
 use crate::file_kind::kind_at;
 use crate::file_reason::{is_piped, push_file_reason};
 use crate::key_reason::key_reason;
@@ -121,7 +122,7 @@ fn push_subject(
         return push_named(text, asked.key.unwrap_or("the key file"));
     }
     match asked.path {
-        Some(path) if is_of_folder(meaning) => push_folder(text, asked, path),
+        Some(path) if is_of_folder(meaning) => push_deposited(text, asked.site, path),
         _ => Ok(()),
     }
 }
@@ -133,20 +134,6 @@ fn is_of_folder(meaning: &Meaning) -> bool {
 fn push_named(text: &mut String, name: &str) -> Result<(), AllocError> {
     push_name(text, name)?;
     text.push_str(": ")
-}
-
-// Appends the folder as the site finds it.
-fn push_folder(text: &mut String, asked: &Asked<'_>, path: &str) -> Result<(), AllocError> {
-    push_name(text, path)?;
-    let site = asked.site;
-    if path.starts_with('/') {
-        write!(text, ", as site {site} reads it: ")
-    } else {
-        write!(
-            text,
-            ", as site {site} reads it from its own folder, or that of its option --bags: "
-        )
-    }
 }
 
 fn push_key(rt: &HostRuntime, text: &mut String, asked: &Asked<'_>) -> Result<(), AllocError> {

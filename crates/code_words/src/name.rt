@@ -3,7 +3,7 @@
 ghost use Rattle.std.specs.Prelude.{◌≡◌, ◌++◌, OnOk, string_bytes};
 ghost use Rattle.std.specs.List.{list_any};
 ghost use Rattle.code_words.specs.Names.{blanks, is_within, is_invisible, shown, shown_name};
-ghost use Rattle.code_words.specs.Names.{quoted_name};
+ghost use Rattle.code_words.specs.Names.{path_text, quoted_name};
 
 use std::alloc::AllocError;
 
@@ -120,7 +120,9 @@ fn push_character(text: &mut String, character: char) -> Result<(), AllocError>
 }
 
 /// Appends the path that an argument names; of an empty one that it is empty.
-pub fn push_path(text: &mut String, path: &str) -> Result<(), AllocError> {
+pub fn push_path(text: &mut String, path: &str) -> Result<(), AllocError>
+    ensures { OnOk result (string_bytes text.new ≡ string_bytes text.old ++ path_text path.now) }
+{
     if path.is_empty() {
         text.push_str("an empty name")
     } else {

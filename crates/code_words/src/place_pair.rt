@@ -1,5 +1,8 @@
 //! Why the places of two sites can't stand in one file.
 
+ghost use Rattle.std.specs.Prelude.{◌≡◌, [], ◌++◌, IfOk, OnOk, is_some, unwrap_or, string_bytes};
+ghost use Rattle.code_words.specs.Pairs.{kind_name, pair_fault};
+
 use members_file::{Place, PlaceKind};
 use std::alloc::AllocError;
 
@@ -9,7 +12,11 @@ pub fn push_pair_words(
     site: usize,
     earlier: &Place,
     place: &Place,
-) -> Result<bool, AllocError> {
+) -> Result<bool, AllocError>
+    ensures answers { IfOk result (λ is. is ≡ is_some (pair_fault site earlier.now place.now)) }
+    ensures appends { OnOk result (string_bytes text.new
+        ≡ string_bytes text.old ++ unwrap_or (pair_fault site earlier.now place.now) []) }
+{
     if earlier.kind() != place.kind() {
         let has = kind_name(earlier.kind());
         let other = kind_name(place.kind());
@@ -51,7 +58,9 @@ pub(crate) fn push_listened(
     )
 }
 
-fn kind_name(kind: PlaceKind) -> &'static str {
+fn kind_name(kind: PlaceKind) -> &'static str
+    ensures { result.now ≡ kind_name kind }
+{
     match kind {
         PlaceKind::Port => "a port of this machine",
         PlaceKind::Ipv4 => "an address of IPv4",

@@ -1,5 +1,8 @@
 //! What is wrong with a command of a schedule.
 
+ghost use Rattle.std.specs.Prelude.{◌≡◌, ◌++◌, OnOk, string_bytes};
+ghost use Rattle.code_words.specs.Kinds.{wrong_text};
+
 use crate::form::{FORMS, Form};
 use crate::kind::Kind;
 use crate::word_text::push_found;
@@ -94,7 +97,11 @@ pub(crate) fn push_missing(text: &mut String, kind: Kind) -> Result<(), AllocErr
 }
 
 /// Appends that this word isn't of its kind, and which are.
-pub(crate) fn push_wrong(text: &mut String, kind: Kind, word: &[u8]) -> Result<(), AllocError> {
+#[tactic(auto, using(std::proofs::Common::append_assoc))]
+pub(crate) fn push_wrong(text: &mut String, kind: Kind, word: &[u8]) -> Result<(), AllocError>
+    ensures { OnOk result (string_bytes text.new
+        ≡ string_bytes text.old ++ wrong_text kind word.now) }
+{
     push_found(text, &[word])?;
     let name = kind.name();
     let range = kind.range();

@@ -4,7 +4,7 @@
 use crate::arguments::DepositsTask;
 use crate::line_fault::push_line_fault;
 use crate::listed_path::path_in;
-use code_words::{LineSpeaker, meaning_of_line, push_error, push_name, say_text};
+use code_words::{LineSpeaker, meaning_of_line, push_deposited, push_error, push_name, say_text};
 use std::alloc::AllocError;
 use std::fs::{self, File};
 
@@ -87,9 +87,7 @@ impl<'a> DepositSpeaker<'a> {
         let Some(path) = path_in(self.rt.alloc(), self.list, object, version)? else {
             return Ok(());
         };
-        push_name(text, path.as_str())?;
-        let site = self.task.to.number();
-        write!(text, ", as site {site} reads it: ")
+        push_deposited(text, self.task.to.number(), path.as_str())
     }
 
     // Appends why a bag that is registered may not be known, if it was waited for.

@@ -45,6 +45,9 @@ pub(crate) fn push_line_fault(
             )?;
         }
     }
+    if line.starts_with(b"#") {
+        text.push_str("; a list of deposits has no comments")?;
+    }
     if line.contains(&b'\t') {
         return text.push_str("; a tab separates no words");
     }
@@ -85,10 +88,11 @@ fn push_word_fault(
 ) -> Result<(), AllocError> {
     if !is_text(alloc, object, LONGEST_OBJECT)? {
         push_word(text, object)?;
-        return write!(
+        write!(
             text,
             " isn't the name of an object, 1 to {LONGEST_OBJECT} bytes of UTF-8"
-        );
+        )?;
+        return push_percent(text, object);
     }
     if parse_number(1, u64::from(u32::MAX), version).is_none() {
         push_word(text, version)?;
@@ -97,9 +101,20 @@ fn push_word_fault(
     }
     if !is_text(alloc, path, LONGEST_PATH)? {
         push_word(text, path)?;
-        return write!(text, " isn't a path, 1 to {LONGEST_PATH} bytes of UTF-8");
+        write!(text, " isn't a path, 1 to {LONGEST_PATH} bytes of UTF-8")?;
+        return push_percent(text, path);
     }
     text.push_str("an earlier line has this version of the object, and a version is one bag")
+}
+
+// Appends how a percent sign is written, where the word has one.
+fn push_percent(text: &mut String, word: &[u8]) -> Result<(), AllocError> {
+    if word.contains(&b'%') {
+        return text.push_str(
+            "; a percent sign and two digits of hex stand for a byte: write %25 for a percent sign",
+        );
+    }
+    Ok(())
 }
 
 fn is_text(alloc: Global, word: &[u8], most: usize) -> Result<bool, AllocError> {

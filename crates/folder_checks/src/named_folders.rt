@@ -6,7 +6,7 @@ ghost use Rattle.outcomes.specs.Outcomes.{Outcome, Writes, WritesPrefix};
 ghost use Rattle.cell_device.specs.Calls.{HasCause};
 ghost use Rattle.bag_tree.specs.declared.fault.TreeFault.TheVariants.{Listing};
 ghost use Rattle.folder_checks.specs.Reports.{TellsFor};
-ghost use Rattle.folder_checks.specs.Forms.{IsForm, IsJson};
+ghost use Rattle.folder_checks.specs.Forms.{IsForm, without_memory};
 ghost use Rattle.folder_checks.specs.Names.{IsNamed, EndsAll, read_of, place_of};
 
 use crate::explanation::{place_line, with_lines};
@@ -76,61 +76,38 @@ fn check_name_on<F: Folders + Measured, W: CountedWrite>(
     ensures cause { HasCause ProgramFault.Output (W.failures output.old) (W.failures output.new)
         result }
 {
+    match answer_in(alloc, folders, name, form) {
+        Ok(answer) => write_bytes(output, answer.status, answer.text.as_slice()),
+        Err(AllocError) => write_bytes(output, 1, memory_line(form)),
+    }
+}
+
+// What is written where memory ran out.
+fn memory_line(form: Form) -> &'static [u8]
+    ensures { result.now ≡ (without_memory form).text }
+{
     match form {
-        Form::Lines(report) => write_lines(alloc, folders, name, report, output),
-        Form::Json(report) => write_json(alloc, folders, name, report, output),
+        Form::Lines(_) => b"memory\n",
+        Form::Json(_) => b"{\"verdict\":\"memory\"}\n",
     }
 }
 
-// Writes the lines of a check, each with the name before it.
-fn write_lines<F: Folders, W: CountedWrite>(
+// The answer for the folder of this name, in this form.
+fn answer_in<F: Folders + Measured>(
     alloc: Global,
     folders: &mut F,
     name: &[u8],
-    report: Report,
-    output: &mut W,
-) -> Result<u8, ProgramFault>
-    ensures ok { IfOk result (λ status. IfSome (F.gives folders.old) (λ gives.
-        (outcome : Outcome) × IsNamed report (F.fails_at folders.old) gives name.now outcome
-        × Writes (W.contents output.old) (W.contents output.new) status outcome)) }
-    ensures output { IsErrOf result ProgramFault.Output → IfSome (F.gives folders.old) (λ gives.
-        (outcome : Outcome) × IsNamed report (F.fails_at folders.old) gives name.now outcome
-        × WritesPrefix (W.contents output.old) (W.contents output.new) outcome) }
+    form: Form,
+) -> Result<NamedAnswer, AllocError>
+    ensures ok { IfOk result (λ answer. IfSome (F.gives folders.old) (λ gives.
+        IsForm form (F.fails_at folders.old) gives name.now
+        (record { status = answer.status; text = answer.text.items }))) }
     ensures kept { F.gives folders.new ≡ F.gives folders.old }
     ensures place { F.fails_at folders.new ≡ F.fails_at folders.old }
-    ensures fault { IfErr result (λ fault. fault ≡ ProgramFault.Output) }
-    ensures cause { HasCause ProgramFault.Output (W.failures output.old) (W.failures output.new)
-        result }
 {
-    match name_answer(alloc, folders, name, report) {
-        Ok(answer) => write_bytes(output, answer.status, answer.text.as_slice()),
-        Err(AllocError) => write_bytes(output, 1, b"memory\n"),
-    }
-}
-
-// Writes a check's line of JSON.
-fn write_json<F: Folders + Measured, W: CountedWrite>(
-    alloc: Global,
-    folders: &mut F,
-    name: &[u8],
-    report: Report,
-    output: &mut W,
-) -> Result<u8, ProgramFault>
-    ensures ok { IfOk result (λ status. IfSome (F.gives folders.old) (λ gives.
-        (outcome : Outcome) × IsJson report (F.fails_at folders.old) gives name.now outcome
-        × Writes (W.contents output.old) (W.contents output.new) status outcome)) }
-    ensures output { IsErrOf result ProgramFault.Output → IfSome (F.gives folders.old) (λ gives.
-        (outcome : Outcome) × IsJson report (F.fails_at folders.old) gives name.now outcome
-        × WritesPrefix (W.contents output.old) (W.contents output.new) outcome) }
-    ensures kept { F.gives folders.new ≡ F.gives folders.old }
-    ensures place { F.fails_at folders.new ≡ F.fails_at folders.old }
-    ensures fault { IfErr result (λ fault. fault ≡ ProgramFault.Output) }
-    ensures cause { HasCause ProgramFault.Output (W.failures output.old) (W.failures output.new)
-        result }
-{
-    match json_answer(alloc, folders, name, report) {
-        Ok(answer) => write_bytes(output, answer.status, answer.text.as_slice()),
-        Err(AllocError) => write_bytes(output, 1, b"{\"verdict\":\"memory\"}\n"),
+    match form {
+        Form::Lines(report) => name_answer(alloc, folders, name, report),
+        Form::Json(report) => json_answer(alloc, folders, name, report),
     }
 }
 

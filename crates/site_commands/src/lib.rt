@@ -50,7 +50,8 @@ pub use send_arguments::{SendTask, send_command, send_task, to_argument};
 pub use server_command::serve_site;
 pub use service::{Service, open_and_serve};
 pub use site_arguments::{
-    SiteTask, Turns, key_argument, members_argument, site_command, site_task, wait_argument,
+    SiteTask, Turns, answer_argument, key_argument, members_argument, site_command, site_task,
+    words_argument,
 };
 pub use stop::{Stop, write_numbered, write_stop};
 pub use udp_socket::client_socket;

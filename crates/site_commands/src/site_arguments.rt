@@ -371,7 +371,7 @@ fn quiet_argument<'a>(alloc: Global) -> Arg<'a> {
 }
 
 /// The option that asks for words.
-pub(crate) fn words_argument<'a>(alloc: Global) -> Arg<'a> {
+pub fn words_argument<'a>(alloc: Global) -> Arg<'a> {
     Arg::new(alloc, "words")
         .long("words")
         .action(ArgAction::SetTrue)
@@ -396,13 +396,21 @@ fn forever_argument<'a>(alloc: Global) -> Arg<'a> {
 }
 
 /// The option of how long a turn waits.
-pub fn wait_argument<'a>(alloc: Global) -> Arg<'a> {
+pub(crate) fn wait_argument<'a>(alloc: Global) -> Arg<'a> {
     Arg::new(alloc, "wait")
         .long("wait")
         .value_name("MS")
         .required(true)
         .value_parser(value_parser!(u32).range(1..=LONGEST_WAIT))
         .help("Milliseconds it waits for a datagram, 1 to 60000")
+}
+
+/// The same of how long an answer may take, which needn't be given.
+pub fn answer_argument<'a>(alloc: Global) -> Arg<'a> {
+    wait_argument(alloc)
+        .required(false)
+        .default_value("1000")
+        .help("Milliseconds for an answer, 1 to 60000")
 }
 
 fn most_argument<'a>(alloc: Global) -> Arg<'a> {

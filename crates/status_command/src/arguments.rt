@@ -2,7 +2,7 @@
 
 use clap::{Arg, ArgAction, ArgMatches, Command, value_parser};
 use json_lines::json_argument;
-use site_commands::{key_argument, members_argument, wait_argument};
+use site_commands::{answer_argument, key_argument, members_argument};
 use std::alloc::{AllocError, Global};
 
 const ABOUT: &str = "Asks all sites how they stand";
@@ -116,13 +116,6 @@ fn with_federation<'a>(alloc: Global, command: Command<'a>) -> Result<Command<'a
         .arg(key_argument(alloc))?
         .arg(answer_argument(alloc))?
         .arg(watch_argument(alloc))
-}
-
-fn answer_argument<'a>(alloc: Global) -> Arg<'a> {
-    wait_argument(alloc)
-        .required(false)
-        .default_value("1000")
-        .help("Milliseconds for an answer, 1 to 60000")
 }
 
 fn watch_argument<'a>(alloc: Global) -> Arg<'a> {

@@ -252,6 +252,10 @@ impl<F: Folders> Server<'_, '_, '_, '_, '_, Waiting, HeldPort, F> {
         if carried.is_some() {
             return Ok(());
         }
+        // Where more has come, deposits that come a moment later are better proposed with it.
+        if batch.len() > 1 {
+            return Ok(());
+        }
         let untried = self.untried();
         if untried == 0 {
             return Ok(());

@@ -130,6 +130,17 @@ returns-then-is_some-clause-settled g c s here =
     let at_call = (goal.at.returns-then-is_some-clause-settled g c).After-take_turns in
     c.in_ok-take_turns.ensures.settled s (begun g at_call s here) here.settled
 
+pub returns-then-len-gt1-clause-takes : goal.returns-then-len-gt1-clause-takes
+returns-then-len-gt1-clause-takes g c s here =
+    let at_call = (goal.at.returns-then-len-gt1-clause-takes g c).After-take_turns in
+    first_part g at_call s (Ok tt)
+    (c.in_ok-take_turns.ensures.takes s (begun g at_call s here) here.settled)
+
+pub returns-then-len-gt1-clause-settled : goal.returns-then-len-gt1-clause-settled
+returns-then-len-gt1-clause-settled g c s here =
+    let at_call = (goal.at.returns-then-len-gt1-clause-settled g c).After-take_turns in
+    c.in_ok-take_turns.ensures.settled s (begun g at_call s here) here.settled
+
 pub returns-then-untried-eq0-clause-takes : goal.returns-then-untried-eq0-clause-takes
 returns-then-untried-eq0-clause-takes g c s here =
     let at_call = (goal.at.returns-then-untried-eq0-clause-takes g c).After-take_turns in
