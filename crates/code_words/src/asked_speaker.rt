@@ -1,5 +1,7 @@
 //! What says the lines of `site` and `send`.
 
+ghost use Rattle.std.specs.Prelude.{◌≡◌, is_some};
+
 use crate::asked::Asked;
 use crate::line_reason::push_reason;
 use crate::line_speaker::{LineSpeaker, say_text};
@@ -14,11 +16,9 @@ pub struct AskedSpeaker<'a> {
 
 impl<'a> AskedSpeaker<'a> {
     /// What speaks of what was asked, if words are asked for.
-    pub fn if_asked(
-        rt: &'a HostRuntime,
-        words: bool,
-        asked: Asked<'a>,
-    ) -> Option<AskedSpeaker<'a>> {
+    pub fn if_asked(rt: &'a HostRuntime, words: bool, asked: Asked<'a>) -> Option<AskedSpeaker<'a>>
+        ensures { is_some result ≡ words }
+    {
         if words {
             Some(AskedSpeaker { rt, asked })
         } else {

@@ -1,5 +1,7 @@
 //! What is said of a file that is read.
 
+ghost use Rattle.std.specs.Prelude.{◌≡◌, is_some};
+
 use crate::file_reason::{no_list, other_file, push_reason, push_unread};
 use crate::other_list::other_list;
 use crate::piped::{path_to_read, push_source_name};
@@ -16,7 +18,9 @@ pub struct FileSpeaker<'a> {
 
 impl<'a> FileSpeaker<'a> {
     /// What speaks of the file of this path, if words are asked for.
-    pub fn if_asked(rt: &'a HostRuntime, words: bool, path: &'a str) -> Option<FileSpeaker<'a>> {
+    pub fn if_asked(rt: &'a HostRuntime, words: bool, path: &'a str) -> Option<FileSpeaker<'a>>
+        ensures { is_some result ≡ words }
+    {
         if words {
             Some(FileSpeaker { rt, path })
         } else {
