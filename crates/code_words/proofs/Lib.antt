@@ -1,8 +1,10 @@
 mod AnyOf
 mod DigitRuns
+mod FirstOf
 mod FirstRow
 mod OtherWords
 mod Parts
+mod Pushed
 mod Tables
 mod Utf8Choice
 mod Writes

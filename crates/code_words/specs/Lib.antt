@@ -10,3 +10,5 @@ pub mod Keys
 pub mod Words
 pub mod PlaceWords
 pub mod Kinds
+pub mod ScheduleLines
+pub mod ScheduleWords

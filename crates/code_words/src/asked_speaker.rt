@@ -1,6 +1,6 @@
 //! What says the lines of `site` and `send`.
 
-ghost use Rattle.std.specs.Prelude.{◌≡◌, is_some};
+ghost use Rattle.std.specs.Prelude.{◌≡◌, Some, None, if◌then◌else◌};
 
 use crate::asked::Asked;
 use crate::line_reason::push_reason;
@@ -17,7 +17,8 @@ pub struct AskedSpeaker<'a> {
 impl<'a> AskedSpeaker<'a> {
     /// What speaks of what was asked, if words are asked for.
     pub fn if_asked(rt: &'a HostRuntime, words: bool, asked: Asked<'a>) -> Option<AskedSpeaker<'a>>
-        ensures { is_some result ≡ words }
+        ensures { result
+            ≡ if words then Some (record { rt = rt.entry; asked = asked.entry }) else None }
     {
         if words {
             Some(AskedSpeaker { rt, asked })

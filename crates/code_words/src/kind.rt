@@ -1,7 +1,9 @@
 //! The kinds of words that commands take.
 
-ghost use Rattle.std.specs.Prelude.{◌≡◌};
-ghost use Rattle.code_words.specs.Kinds.{name_of, range_of};
+ghost use Rattle.std.specs.Prelude.{◌≡◌, IfOk, is_some};
+ghost use Rattle.words.specs.Words.{bytes_of};
+ghost use Rattle.code_words.specs.declared.kind.Kind.TheVariants.{Weight};
+ghost use Rattle.code_words.specs.Kinds.{name_of, range_of, takes, text_length};
 
 use hex::FromHexError;
 use std::alloc::{AllocError, Global};
@@ -68,14 +70,19 @@ impl Kind {
     }
 
     /// Whether a word is one of these.
-    pub(crate) fn takes(self, alloc: Global, word: &[u8]) -> Result<bool, AllocError> {
+    pub(crate) fn takes(self, alloc: Global, word: &[u8]) -> Result<bool, AllocError>
+        ensures { IfOk result (λ is. is ≡ takes self word.now) }
+    {
         match self {
-            Kind::Object => is_text(alloc, word, LONGEST_OBJECT),
-            Kind::Path => is_text(alloc, word, usize::MAX),
+            Kind::Object => {
+                let length = text_length(alloc, word)?;
+                Ok(0 < length && length <= LONGEST_OBJECT)
+            }
+            Kind::Path => Ok(0 < text_length(alloc, word)?),
             Kind::Bytes => is_hex(alloc, word),
             Kind::Federation => Ok(parse_number(0, u64::MAX, word).is_some()),
             Kind::Count => Ok(parse_number(1, 63, word).is_some()),
-            Kind::Weight => Ok(parse_number(1, 255, word).is_some()),
+            Kind::Weight => Ok(is_weight(word)),
             Kind::Site => Ok(parse_number(0, 255, word).is_some()),
             Kind::Tree | Kind::Version => Ok(parse_number(1, 4294967295, word).is_some()),
             Kind::Number => Ok(parse_number(0, 4294967295, word).is_some()),
@@ -84,14 +91,27 @@ impl Kind {
     }
 }
 
-fn is_text(alloc: Global, word: &[u8], most: usize) -> Result<bool, AllocError> {
+/// Whether a word is the weight of a site.
+pub(crate) fn is_weight(word: &[u8]) -> bool
+    ensures { result ≡ takes Weight word.now }
+{
+    parse_number(1, 255, word).is_some()
+}
+
+// How many bytes of text a word stands for; none, if it stands for no text.
+fn text_length(alloc: Global, word: &[u8]) -> Result<usize, AllocError>
+    ensures { IfOk result (λ n. n ≡ text_length word.now) }
+{
     match parse_text(alloc, word)? {
-        Some(text) => Ok(!text.is_empty() && text.len() <= most),
-        None => Ok(false),
+        Some(text) => Ok(text.len()),
+        None => Ok(0),
     }
 }
 
-fn is_hex(alloc: Global, word: &[u8]) -> Result<bool, AllocError> {
+#[tactic(auto, unfolding(words::specs::Words::bytes_of))]
+fn is_hex(alloc: Global, word: &[u8]) -> Result<bool, AllocError>
+    ensures { IfOk result (λ is. is ≡ is_some (bytes_of word.now)) }
+{
     if word == b"-".as_slice() {
         return Ok(true);
     }

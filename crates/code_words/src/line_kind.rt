@@ -1,12 +1,13 @@
 //! What kind of text has a line.
 
-ghost use Rattle.std.specs.Prelude.{◌≡◌, slice_get};
+ghost use Rattle.std.specs.Prelude.{◌≡◌, ◌++◌, slice_get, OnOk, string_bytes};
 ghost use Rattle.std.specs.List.{list_any};
 ghost use Rattle.std.specs.Option.{option_copied};
 ghost use Rattle.std.specs.Str.{bytes_eq};
 ghost use Rattle.code_words.specs.FileKinds.{kind_of_line, kind_of_words, words_of, word_at};
 ghost use Rattle.code_words.specs.FileKinds.{is_key_word, is_ledger_word, is_path, is_number};
 ghost use Rattle.code_words.specs.FileKinds.{is_command};
+ghost use Rattle.code_words.specs.ScheduleWords.{is_list, list_text, kind_text};
 
 use crate::file_kind::FileKind;
 use crate::form::{FORMS, Form};
@@ -94,17 +95,27 @@ fn is_ledger_word(word: &[u8]) -> bool
 }
 
 /// Appends of which list a line is, if it is one's, where a text of another kind had to begin.
-pub(crate) fn push_list_kind(text: &mut String, line: &[u8]) -> Result<(), AllocError> {
+pub(crate) fn push_list_kind(text: &mut String, line: &[u8]) -> Result<(), AllocError>
+    ensures { OnOk result (string_bytes text.new ≡ string_bytes text.old ++ list_text line.now) }
+{
     match str::from_utf8(line) {
-        Ok(line) => match kind_of_line(line) {
-            Some(kind) if is_list(kind) => text.push_str(kind.said()),
-            _ => Ok(()),
-        },
+        Ok(line) => push_kind(text, kind_of_line(line)),
         Err(_) => Ok(()),
     }
 }
 
-fn is_list(kind: FileKind) -> bool {
+fn push_kind(text: &mut String, kind: Option<FileKind>) -> Result<(), AllocError>
+    ensures { OnOk result (string_bytes text.new ≡ string_bytes text.old ++ kind_text kind) }
+{
+    match kind {
+        Some(kind) if is_list(kind) => text.push_str(kind.said()),
+        _ => Ok(()),
+    }
+}
+
+fn is_list(kind: FileKind) -> bool
+    ensures { result ≡ is_list kind }
+{
     matches!(
         kind,
         FileKind::Ledger | FileKind::Journal | FileKind::Deposits | FileKind::Json
@@ -141,7 +152,8 @@ fn is_of_form(forms: &[Form], word: &[u8]) -> bool
     forms.iter().any(|form| has_name(form, word))
 }
 
-fn has_name(form: &Form, word: &[u8]) -> bool
+/// Whether the command has this name.
+pub(crate) fn has_name(form: &Form, word: &[u8]) -> bool
     ensures { result ≡ bytes_eq form.now.name.now word.now }
 {
     form.name.as_bytes() == word

@@ -1,0 +1,16 @@
+use Rattle.std.proofs.Common.{◌∙◌, ap, map, option_map}
+use Rattle.std.specs.List.{find}
+use Rattle.code_words.specs.ScheduleWords.{Command, command_of, commands, same_but_case}
+use Rattle.code_words.proofs.FirstOf.{first_of_map}
+use Rattle.code_words.proofs.schedule_command.form_alike.Goals as goal
+
+pub returns : goal.returns
+unfolding commands
+returns c =
+    ap (option_map command_of) c.first_alike.ensures
+    ∙ (first_of_map (λ (command : Command). same_but_case command.name c.args.name.now) command_of
+    c.as_slice.result.now
+    ∙ ap
+    (λ forms. find (λ (command : Command). same_but_case command.name c.args.name.now)
+    (map command_of forms))
+    c.as_slice.ensures)
