@@ -1,7 +1,7 @@
 -- From what the steps of a site do to what it does with a message of a member.
 use Rattle.std.proofs.Common.{◌≡◌, ◌⊎◌, inl, inr, ℕ, Bool, true, false, cond, List, [], ◌∷◌, ◌++◌}
-use Rattle.std.proofs.Common.{map, Option, Some, None, IsSome, Result, Ok, Err, refl, sym, ap}
-use Rattle.std.proofs.Common.{subst, ◌∙◌}
+use Rattle.std.proofs.Common.{map, Option, Some, None, IsSome, Result, Ok, Err, refl, ap}
+use Rattle.std.proofs.Common.{◌∙◌}
 use Rattle.std.specs.Prelude.{IsErrOf}
 use Rattle.fed_types.specs.declared.bag_id.BagId.{BagId}
 use Rattle.fed_types.specs.declared.vote.Vote.{Vote}
@@ -27,7 +27,7 @@ use Rattle.acceptor.specs.Decisions.{prepare_decision, accept_decision}
 use Rattle.proposer.proofs.Stands.{at_here}
 use Rattle.proposer.specs.Proposals.{ready}
 use Rattle.proposer.specs.VolatileStates.{VolatileState, hears, promise_message}
-use Rattle.proposer.specs.UnderWay.{UnderWay, heard_if, waits}
+use Rattle.proposer.specs.UnderWay.{UnderWay, waits}
 use Rattle.proposer.specs.VolatileStates.{refusal_message}
 use Rattle.learner.specs.LearnedBags.{learned_from, learned_of_known}
 use Rattle.site_tables.specs.Contents.{Contents, IsOf, RepresentsSame}
@@ -39,12 +39,12 @@ use Rattle.site.specs.declared.answer.Line.TheVariants as site_lines
 use Rattle.site.specs.declared.fault.SiteFault.{SiteFault}
 use Rattle.site.specs.declared.fault.SiteFault.TheVariants as faults
 use Rattle.site.specs.Answered.{IsAnswered, Keeps, Gives}
-use Rattle.site.specs.Arrivals.{on_body, decided, learning, proposing, telling, answer_body}
+use Rattle.site.specs.Arrivals.{on_body, decided, learning, proposing, answer_body}
 use Rattle.site.specs.Arrivals.{addressees, is_member, on_arrival}
 use Rattle.site.specs.Datagrams.{handed_out, datagram}
 use Rattle.site.specs.Effects.{Effect, record_of, to_each, only_says, quiet}
 use Rattle.site.specs.Sites.{OpenSite, Represents, IsInOrder}
-use Rattle.site.specs.inner.Concluded.{Stands, volatile_after, under_after, Concludes, HearsBody}
+use Rattle.site.specs.inner.Concluded.{Stands, Concludes, HearsBody}
 use Rattle.site.specs.inner.Concluded.{Issues, one_datagram, all_datagrams}
 use Rattle.site.proofs.Conclusions.{concluded, IsNoRound, noted_same, prepare_starts_none}
 use Rattle.site.proofs.Conclusions.{accept_starts_none}
@@ -86,39 +86,20 @@ module _ {C : Type 0} (device : C → Device) (old new : OpenSite C) (slot : Slo
       → ConcludesAs asker d → (volatile : VolatileState) → Represents old volatile
       → AnswersAs body asker d volatile
   hears_decided body asker d other none c volatile (under, stands) =
-      concluded device old old new volatile under
-      (decided (quorums_of old.book.owner.members) old.book.owner.site slot asker d
-      (hears volatile m)) None
-      (map (datagram old.book.owner.members.federation)
-      (to_each slot (answer_body old.book.owner.site d.answer)
-      (addressees (quorums_of old.book.owner.members) asker d.answer))) result c refl stands refl
-      refl
+      let same = noted_same slot d.entry none volatile under in
+      concluded device old old new volatile under _ None _ result c refl stands refl refl
       (λ after. (
         under,
-        hears_other new.tables new.book.records volatile under (same after) m
+        hears_other new.tables new.book.records volatile under (rw (same.0, same.1) at after) _
             other.no_promise other.no_refusal other.no_vote,
       ))
-    where
-      m : Message
-      m = record { slot = slot; body = body }
-
-      same : Stands new (volatile_after volatile under (record_of slot d.entry))
-          (under_after under (record_of slot d.entry)) → Stands new volatile under
-      same after =
-          subst (λ (u : UnderWay). Stands new volatile u)
-          (noted_same slot d.entry none volatile under).1
-          (subst (λ (s : VolatileState). Stands new s (under_after under (record_of slot d.entry)))
-          (noted_same slot d.entry none volatile under).0 after)
 
   -- so it is where the decision is the one that the definitions make
   hears_as : (body : Body) (asker sender : ℕ) (d made : Decision) → IsOther body → asker ≡ sender
       → d ≡ made → IsNoRound made.entry → ConcludesAs asker d → (volatile : VolatileState)
       → Represents old volatile → AnswersAs body sender made volatile
   hears_as body asker sender d made other from is none c volatile stands =
-      subst (λ (x : Decision). AnswersAs body sender x volatile) is
-      (subst (λ (n : ℕ). AnswersAs body n d volatile) from
-      (hears_decided body asker d other
-      (subst (λ (x : Decision). IsNoRound x.entry) (sym is) none) c volatile stands))
+      rw (← is, ← from) (hears_decided body asker d other (rw (← is) at none) c volatile stands)
 
   pub hears_prepare : (ballot : BallotNumber) (asker : ℕ) (d : Decision) → asker ≡ ballot.site
       → d ≡ prepare_decision slot old.book.records ballot → ConcludesAs asker d
@@ -172,12 +153,8 @@ module _ {C : Type 0} (device : C → Device) (old new : OpenSite C) where
       → Represents old volatile
       → IsAnswered device old new volatile (only_says site_lines.Dropped volatile) (Ok a)
   says_dropped volatile a is same stands = record {
-    keeps = ap (λ (s : OpenSite C). s.book) same;
-    gives = (
-      ap (λ (l : Option Line). Ok l) (sym is.0),
-      ap (map handed_out) is.1,
-      subst (λ (s : OpenSite C). Represents s volatile) (sym same) stands,
-    );
+    keeps = cc;
+    gives = (cc, cc, rw same stands);
   }
 
 module _ {C : Type 0} (device : C → Device) (old new : OpenSite C) (slot : SlotName) where
@@ -187,11 +164,7 @@ module _ {C : Type 0} (device : C → Device) (old new : OpenSite C) (slot : Slo
       → IsAnswered device old new volatile (quiet now) (Ok a)
   says_nothing volatile now a is book stands = record {
     keeps = book;
-    gives = (
-      ap (λ (l : Option Line). Ok l) (sym is.0),
-      ap (map handed_out) is.1,
-      stands,
-    );
+    gives = (cc, cc, stands);
   }
 
   -- memory ran out
@@ -199,8 +172,7 @@ module _ {C : Type 0} (device : C → Device) (old new : OpenSite C) (slot : Slo
       → result ≡ Err faults.Memory → new.book ≡ old.book → Represents new volatile
       → IsAnswered device old new volatile (quiet now) result
   out_of_memory volatile now result is book stands =
-      subst (λ (r : Result Answer SiteFault). IsAnswered device old new volatile (quiet now) r)
-      (sym is) (record { keeps = book; gives = stands })
+      rw is (record { keeps = book; gives = stands })
 
   -- ---- a refusal
   module _ (from : ℕ) (asked standing : BallotNumber) where
@@ -240,14 +212,8 @@ module _ {C : Type 0} (device : C → Device) (old new : OpenSite C) (slot : Slo
         → HearsBody device old new slot (bodies.Known from bag) (Ok a)
     unfolding on_body
     hears_told_nothing a is same none volatile (under, stands) =
-        subst (λ (o : Option BagId). IsAnswered device old new volatile
-        (learning slot o (hears volatile known_message)) (Ok a)) none
-        (says_nothing volatile (hears volatile known_message) a is
-        (ap (λ (s : OpenSite C). s.book) same) (
-          under,
-          hears_it volatile under
-              (subst (λ (s : OpenSite C). Stands s volatile under) (sym same) stands),
-        ))
+        rw (← none)
+        (says_nothing volatile _ a is (cc) (under, hears_it volatile under (rw same stands)))
 
     pub hears_told : (learned : BagId) (result : Result Answer SiteFault)
         → Some learned ≡ learned_of_known slot old.book.records bag
@@ -256,11 +222,7 @@ module _ {C : Type 0} (device : C → Device) (old new : OpenSite C) (slot : Slo
         → HearsBody device old new slot (bodies.Known from bag) result
     unfolding on_body
     hears_told learned result some c volatile (under, stands) =
-        subst (λ (o : Option BagId). IsAnswered device old new volatile
-        (learning slot o (hears volatile known_message)) result) some
-        (concluded device old old new volatile under
-        (learning slot (Some learned) (hears volatile known_message))
-        (Some (site_lines.Known slot learned)) [] result c refl stands refl refl
+        rw (← some) (concluded device old old new volatile under _ _ _ result c refl stands refl refl
         (λ after. (under, hears_it volatile under after)))
 
   -- ---- a vote
@@ -279,10 +241,8 @@ module _ {C : Type 0} (device : C → Device) (old new : OpenSite C) (slot : Slo
         → HearsBody device old new slot (bodies.Accepted from vote) (Ok a)
     unfolding on_body
     hears_vote a is book none heard volatile (under, stands) =
-        subst (λ (o : Option BagId). IsAnswered device old new volatile
-        (learning slot o (hears volatile vote_message)) (Ok a)) (none volatile under stands)
-        (says_nothing volatile (hears volatile vote_message) a is book
-        (under, heard volatile under stands))
+        rw (← none volatile under stands)
+        (says_nothing volatile _ a is book (under, heard volatile under stands))
 
     pub vote_unheard : (result : Result Answer SiteFault) → result ≡ Err faults.Memory
         → new.book ≡ old.book
@@ -294,10 +254,8 @@ module _ {C : Type 0} (device : C → Device) (old new : OpenSite C) (slot : Slo
         → HearsBody device old new slot (bodies.Accepted from vote) result
     unfolding on_body
     vote_unheard result is book none same volatile (under, stands) =
-        subst (λ (o : Option BagId). IsAnswered device old new volatile
-        (learning slot o (hears volatile vote_message)) result) (sym (none volatile under stands))
-        (out_of_memory volatile (hears volatile vote_message) result is book
-        (under, same volatile under stands))
+        rw (none volatile under stands)
+        (out_of_memory volatile _ result is book (under, same volatile under stands))
 
     -- once its bag is recorded as known, the vote that made it so is heard too
     module _ (bag : BagId) where
@@ -329,17 +287,13 @@ module _ {C : Type 0} (device : C → Device) (old new : OpenSite C) (slot : Slo
           → (fault ≡ faults.Memory) ⊎ ((fault ≡ faults.Device) × IsSome (Some noted))
           → Gives old new volatile (learned volatile) (Err fault)
       refused_so fault volatile under c stands (inl is) =
-          subst (λ (f : SiteFault). Gives old new volatile (learned volatile) (Err f)) (sym is)
-          (under, c.same volatile under stands)
+          rw is (under, c.same volatile under stands)
       refused_so fault volatile under c stands (inr (is, some)) =
-          subst (λ (f : SiteFault). Gives old new volatile (learned volatile) (Err f)) (sym is) some
+          rw is some
 
       grown : (a : Answer) → Keeps device (Some noted) (Ok a) old.book new.book
           → new.book.records ≡ old.book.records ++ noted ∷ []
-      grown a (inl (e, same)) = absurd (no_fault e)
-        where
-          no_fault : ◌≡◌ {A = Result Answer SiteFault} (Ok a) (Err faults.Memory) → ⊥
-          no_fault e = cc
+      grown a (inl (e, same)) = cc
       grown a (inr c) = c.committed.0
 
       answered : (result : Result Answer SiteFault)
@@ -347,9 +301,7 @@ module _ {C : Type 0} (device : C → Device) (old new : OpenSite C) (slot : Slo
           → (volatile : VolatileState) (under : UnderWay) → Stands old volatile under
           → IsAnswered device old new volatile (learned volatile) result
       answered (Ok a) c volatile under stands =
-          concluded device old old new volatile under (learned volatile)
-          (Some (site_lines.Known slot bag))
-          [] (Ok a) c refl stands refl refl
+          concluded device old old new volatile under _ _ _ (Ok a) c refl stands refl refl
           (λ after. (
             under,
             hears_known new.tables new.book.records volatile under after slot from
@@ -367,9 +319,7 @@ module _ {C : Type 0} (device : C → Device) (old new : OpenSite C) (slot : Slo
           → HearsBody device old new slot (bodies.Accepted from vote) result
       unfolding on_body
       hears_deciding_vote result some c volatile (under, stands) =
-          subst (λ (o : Option BagId). IsAnswered device old new volatile
-          (learning slot o (hears volatile vote_message)) result) (some volatile under stands)
-          (answered result c volatile under stands)
+          rw (← some volatile under stands) (answered result c volatile under stands)
 
   -- ---- a promise
   module _ (from : ℕ) (ballot : BallotNumber) (prior : Option Vote) where
@@ -394,11 +344,8 @@ module _ {C : Type 0} (device : C → Device) (old new : OpenSite C) (slot : Slo
         → HearsBody device old new slot (bodies.Promise from ballot prior) (Ok a)
     unfolding on_body
     hears_promise a is book none heard volatile (under, stands) =
-        subst (λ (o : Option BagId). IsAnswered device old new volatile
-        (proposing (quorums_of old.book.owner.members) slot ballot o (hears volatile promise))
-        (Ok a)) (none volatile under stands)
-        (says_nothing volatile (hears volatile promise) a is book
-        (under, heard volatile under stands))
+        rw (← none volatile under stands)
+        (says_nothing volatile _ a is book (under, heard volatile under stands))
 
     module _ (mid : OpenSite C) (bag : BagId) where
       asked_all : (result : Result Answer SiteFault) → mid.book ≡ old.book
@@ -411,37 +358,21 @@ module _ {C : Type 0} (device : C → Device) (old new : OpenSite C) (slot : Slo
       asked_all (Ok a) book i volatile under stands = record {
         keeps = i.book ∙ book;
         gives = (
-          ap (λ (l : Option Line). Ok l) (sym (i.says a refl).0),
+          cc ((i.says a refl).0),
           (i.says a refl).1
               ∙ ap (λ (b : OpenBook C). map (datagram b.owner.members.federation)
               (to_each slot (bodies.Accept (vote_for bag)) (members_of b.owner.members))) book,
           (
             waits (waits under slot (Some promise)) slot None,
-            subst (λ (m : Option Message). Stands new (heard_if volatile m)
-                (waits (waits under slot (Some promise)) slot None))
-                (at_here slot (Some promise) under.waiting)
-                (i.heard volatile (waits under slot (Some promise)) stands),
+            rw (at_here slot (Some promise) under.waiting) at (i.heard volatile _ stands),
           ),
         );
       }
       asked_all (Err fault) book i volatile under stands =
-          out_of_memory_of fault i.faults
-        where
-          out_of_memory_of : (f : SiteFault) → f ≡ faults.Memory
-              → IsAnswered device old new volatile
-              (proposing (quorums_of old.book.owner.members) slot ballot (Some bag)
-              (hears volatile promise)) (Err f)
-          out_of_memory_of f is =
-              subst (λ (x : SiteFault). IsAnswered device old new volatile
-              (proposing (quorums_of old.book.owner.members) slot ballot (Some bag)
-              (hears volatile promise)) (Err x)) (sym is)
-              (record {
-                keeps = i.book ∙ book;
-                gives = (
-                  waits under slot (Some promise),
-                  i.same volatile (waits under slot (Some promise)) stands,
-                );
-              })
+          rw i.faults (record {
+            keeps = i.book ∙ book;
+            gives = (waits under slot (Some promise), i.same volatile _ stands);
+          })
 
       pub hears_last_promise : (result : Result Answer SiteFault) → mid.book ≡ old.book
           → ((volatile : VolatileState) (under : UnderWay) → Stands old volatile under
@@ -453,9 +384,7 @@ module _ {C : Type 0} (device : C → Device) (old new : OpenSite C) (slot : Slo
           → HearsBody device old new slot (bodies.Promise from ballot prior) result
       unfolding on_body
       hears_last_promise result book some waiting i volatile (under, stands) =
-          subst (λ (o : Option BagId). IsAnswered device old new volatile
-          (proposing (quorums_of old.book.owner.members) slot ballot o (hears volatile promise))
-          result) (some volatile under stands)
+          rw (← some volatile under stands)
           (asked_all result book i volatile under (waiting volatile under stands))
 
   -- ---- a question
@@ -467,19 +396,15 @@ module _ {C : Type 0} (device : C → Device) (old new : OpenSite C) (slot : Slo
         → Stands old volatile under
         → Stands new (hears volatile asking) under
     hears_question same volatile under stands =
-        hears_other new.tables new.book.records volatile under
-        (subst (λ (s : OpenSite C). Stands s volatile under) (sym same) stands) asking (λ b. refl)
-        refl (λ v. refl)
+        hears_other _ _ volatile under (rw same stands) asking (λ b. refl) refl (λ v. refl)
 
     pub hears_ask : (a : Answer) → (a.line ≡ None) × (a.sends.items ≡ []) → new ≡ old
         → None ≡ known_of slot old.book.records
         → HearsBody device old new slot (bodies.Ask from) (Ok a)
     unfolding on_body
     hears_ask a is same none volatile (under, stands) =
-        subst (λ (o : Option BagId). IsAnswered device old new volatile
-        (telling old.book.owner.site slot from o (hears volatile asking)) (Ok a)) none
-        (says_nothing volatile (hears volatile asking) a is (ap (λ (s : OpenSite C). s.book) same)
-        (under, hears_question same volatile under stands))
+        rw (← none)
+        (says_nothing volatile _ a is (cc) (under, hears_question same volatile under stands))
 
     pub tells : (a : Answer) (bag : BagId) → a.line ≡ None
         → map handed_out a.sends.items
@@ -488,15 +413,9 @@ module _ {C : Type 0} (device : C → Device) (old new : OpenSite C) (slot : Slo
         → HearsBody device old new slot (bodies.Ask from) (Ok a)
     unfolding on_body
     tells a bag silent sent same some volatile (under, stands) =
-        subst (λ (o : Option BagId). IsAnswered device old new volatile
-        (telling old.book.owner.site slot from o (hears volatile asking)) (Ok a)) some
-        (record {
-          keeps = ap (λ (s : OpenSite C). s.book) same;
-          gives = (
-            ap (λ (l : Option Line). Ok l) (sym silent),
-            sent,
-            (under, hears_question same volatile under stands),
-          );
+        rw (← some) (record {
+          keeps = cc;
+          gives = (cc, sent, (under, hears_question same volatile under stands));
         })
 
   -- ---- a request of a client, or the reply to one
@@ -514,13 +433,7 @@ module _ {C : Type 0} (device : C → Device) (old new : OpenSite C) (slot : Slo
       says_dropped device old new volatile a dropped same stands
   drops_request (bodies.QueryReply from answer) is a dropped same volatile stands =
       says_dropped device old new volatile a dropped same stands
-  drops_request (bodies.Prepare ballot) is a dropped same volatile stands = absurd is
-  drops_request (bodies.Accept vote) is a dropped same volatile stands = absurd is
-  drops_request (bodies.Promise from ballot prior) is a dropped same volatile stands = absurd is
-  drops_request (bodies.Accepted from vote) is a dropped same volatile stands = absurd is
-  drops_request (bodies.Refused from asked standing) is a dropped same volatile stands = absurd is
-  drops_request (bodies.Ask from) is a dropped same volatile stands = absurd is
-  drops_request (bodies.Known from bag) is a dropped same volatile stands = absurd is
+  drops_request _ is a dropped same volatile stands = absurd is
 
 -- ---- what arrives
 module _ {C : Type 0} (device : C → Device) (old new : OpenSite C) where
@@ -537,10 +450,7 @@ module _ {C : Type 0} (device : C → Device) (old new : OpenSite C) where
       → IsAnswered device old new volatile (arrived volatile (Some m)) result
   unfolding on_arrival
   takes_in m result member hears_body volatile stands =
-      subst (λ (t : Bool). IsAnswered device old new volatile
-      (cond t (on_body (quorums_of old.book.owner.members) old.book.owner.site old.book.records
-      volatile (hears volatile m) m.slot m.body) (only_says site_lines.Dropped volatile)) result)
-      (sym member) (hears_body volatile stands)
+      rw member (hears_body volatile stands)
 
   -- any other is dropped
   pub drops : (m : Message) (a : Answer)
@@ -550,10 +460,7 @@ module _ {C : Type 0} (device : C → Device) (old new : OpenSite C) where
       → IsAnswered device old new volatile (arrived volatile (Some m)) (Ok a)
   unfolding on_arrival
   drops m a stranger dropped same volatile stands =
-      subst (λ (t : Bool). IsAnswered device old new volatile
-      (cond t (on_body (quorums_of old.book.owner.members) old.book.owner.site old.book.records
-      volatile (hears volatile m) m.slot m.body) (only_says site_lines.Dropped volatile)) (Ok a))
-      (sym stranger) (says_dropped device old new volatile a dropped same stands)
+      rw stranger (says_dropped device old new volatile a dropped same stands)
 
   -- and so is what is no message
   pub drops_bytes : (o : Option Message) (a : Answer) → o ≡ None
@@ -562,14 +469,13 @@ module _ {C : Type 0} (device : C → Device) (old new : OpenSite C) where
       → IsAnswered device old new volatile (arrived volatile o) (Ok a)
   unfolding on_arrival
   drops_bytes o a none dropped same volatile stands =
-      subst (λ (x : Option Message). IsAnswered device old new volatile (arrived volatile x) (Ok a))
-      (sym none) (says_dropped device old new volatile a dropped same stands)
+      rw none (says_dropped device old new volatile a dropped same stands)
 
   -- what is answered needs no opening
   pub is_open : (volatile : VolatileState) (e : Effect) (result : Result Answer SiteFault)
       → IsAnswered device old new volatile e result → IsErrOf result faults.NeedsOpen → ⊥
   is_open volatile e result is fault =
-      subst (λ (r : Result Answer SiteFault). Gives old new volatile e r) fault is.gives
+      rw fault at is.gives
 
 -- ---- what an answer says, of the answer that is given
 pub says_so : (a b : Answer) (line : Option Line) (datagrams : List (ℕ × List ℕ))
@@ -577,8 +483,4 @@ pub says_so : (a b : Answer) (line : Option Line) (datagrams : List (ℕ × List
     → (a.line ≡ line) × (map handed_out a.sends.items ≡ datagrams)
     → (b.line ≡ line) × (map handed_out b.sends.items ≡ datagrams)
 says_so a b line datagrams e is =
-    subst (λ (x : Answer). (x.line ≡ line) × (map handed_out x.sends.items ≡ datagrams)) (same e)
-    is
-  where
-    same : ◌≡◌ {A = Result Answer SiteFault} (Ok a) (Ok b) → a ≡ b
-    same e = cc
+    let same : a ≡ b = cc in rw same at is
