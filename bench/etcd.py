@@ -29,23 +29,42 @@ class Etcd:
             self.processes.append(subprocess.Popen(words, **quiet))
         self.leader = leader_among(ports)
 
-    def client(self, number):
-        stream = socket.create_connection(("127.0.0.1", self.leader))
-        stream.setsockopt(socket.IPPROTO_TCP, socket.TCP_NODELAY, 1)
-        return lambda name, _: self.put(stream, name)
+    def outputs(self):
+        return []
 
-    def put(self, stream, name):
-        text = lambda it: base64.b64encode(it.encode()).decode()
-        body = json.dumps({"key": text(name), "value": text(64 * "b")})
-        head = f"POST /v3/kv/put HTTP/1.1\r\nHost: x\r\nContent-Length: {len(body)}\r\n\r\n"
-        stream.sendall((head + body).encode())
-        answer = stream.recv(65536)
-        assert answer.startswith(b"HTTP/1.1 200") and b'"revision"' in answer, answer
+    def client(self, _):
+        return EtcdClient(self.leader)
 
     def end(self):
         for it in self.processes:
             it.kill()
             it.wait()
+
+
+class EtcdClient:
+    """A client of the leader. No put of its is lost, so none is sent again."""
+
+    def __init__(self, port):
+        self.socket = socket.create_connection(("127.0.0.1", port))
+        self.socket.setsockopt(socket.IPPROTO_TCP, socket.TCP_NODELAY, 1)
+
+    def fileno(self):
+        return self.socket.fileno()
+
+    def begin(self, name):
+        text = lambda it: base64.b64encode(it.encode()).decode()
+        body = json.dumps({"key": text(name), "value": text(64 * "b")})
+        head = f"POST /v3/kv/put HTTP/1.1\r\nHost: x\r\nContent-Length: {len(body)}\r\n\r\n"
+        self.socket.sendall((head + body).encode())
+
+    def again(self):
+        pass
+
+    def take(self):
+        """Takes in an answer, with which a put ends."""
+        answer = self.socket.recv(65536)
+        assert answer.startswith(b"HTTP/1.1 200") and b'"revision"' in answer, answer
+        return True
 
 
 def leader_among(ports, seconds=30):

@@ -1,7 +1,6 @@
 mod AnyOf
 mod DigitRuns
 mod FirstOf
-mod FirstRow
 mod OtherWords
 mod Parts
 mod Pushed

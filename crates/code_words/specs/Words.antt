@@ -1,4 +1,4 @@
--- How the words of a line are shown to a person: no key is, nor part of one.
+-- How the words of a line are shown to a person. Digits that may be those of a key are hidden.
 use Rattle.std.specs.Prelude.{ℕ, zero, suc, ◌-◌, ◌/◌, ◌%◌, nat_le, nat_lt, Bool, false}
 use Rattle.std.specs.Prelude.{if◌then◌else◌}
 use Rattle.std.specs.Prelude.{List, [], ◌∷◌, ◌++◌, length, take, codes, Option, None, is_some}

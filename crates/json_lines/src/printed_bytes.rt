@@ -23,6 +23,7 @@ pub fn take_printed<W: Write>(
     output: &mut W,
 ) -> Result<usize>
     ensures count { IfOk result (λ count. count ≤ length bytes.now) }
+    ensures some { IfOk result (λ count. count ≡ 0 → bytes.now ≡ []) }
     ensures written { IfOk result (λ count. Appends (W.contents output.old)
         (W.contents output.new) (json_text begun.old.items (take count bytes.now))) }
     ensures begun { IfOk result (λ count. begun.new.items

@@ -5,3 +5,4 @@ pub mod Paths
 pub mod Listed
 pub mod Said
 pub mod Opened
+pub mod Divided
