@@ -3,11 +3,8 @@
 use Rattle.std.specs.Prelude.{ℕ, Bool, true, false, List, [], ◌∷◌, ◌++◌, codes, Option, Some, None}
 use Rattle.std.specs.List.{flat_map}
 use Rattle.std.specs.Fmt.{decimal}
-use Rattle.hex.specs.Hex.{encode_lower}
-use Rattle.fed_types.specs.declared.bag_id.BagId.{BagId}
-use Rattle.fed_types.specs.Slots.{SlotName}
 use Rattle.words.specs.Escapes.{escaped_text}
-use Rattle.ledger.specs.Lines.{ballot_text}
+use Rattle.words.specs.Written.{slot_text, bag_text, ballot_text}
 use Rattle.audit.specs.declared.finding.Finding.{Finding}
 use Rattle.audit.specs.declared.finding.Finding.TheVariants.{Chosen, Known, Open, Conflict}
 use Rattle.audit_command.specs.declared.cell_defect.CellDefect.{CellDefect}
@@ -61,17 +58,9 @@ finding_word (Known bag) = codes "known "
 finding_word Open = codes "open "
 finding_word (Conflict u v) = codes "conflict "
 
--- a slot's object and its version
-abbrev pub slot_text : SlotName → List ℕ
-slot_text slot = escaped_text slot.object ++ (32 ∷ decimal slot.version)
-
--- a space and a bag
-abbrev pub bag_text : BagId → List ℕ
-bag_text bag = 32 ∷ encode_lower bag.0
-
 -- the chosen bag, and the ballot in which it was chosen; the known one; two
 abbrev pub finding_text : Finding → List ℕ
-finding_text (Chosen vote) = bag_text vote.bag ++ (32 ∷ ballot_text vote.ballot)
+finding_text (Chosen vote) = bag_text vote.bag ++ ballot_text vote.ballot
 finding_text (Known bag) = bag_text bag
 finding_text Open = []
 finding_text (Conflict u v) = bag_text u ++ bag_text v

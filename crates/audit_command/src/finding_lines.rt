@@ -1,18 +1,17 @@
 //! The line of a version, and that of a cell that can't be used as it is.
 
-ghost use Rattle.std.specs.Prelude.{◌≡◌, ◌∷◌};
+ghost use Rattle.std.specs.Prelude.{◌≡◌};
 ghost use Rattle.std.specs.List.{flat_map};
 ghost use Rattle.words.specs.Pushes.{Pushes};
-ghost use Rattle.ledger.specs.Lines.{ballot_text};
 ghost use Rattle.audit_command.specs.Lines.{fault_word, place_text, fault_line, finding_word};
-ghost use Rattle.audit_command.specs.Lines.{slot_text, bag_text, finding_text, version_line};
+ghost use Rattle.audit_command.specs.Lines.{finding_text, version_line};
 
 use crate::cell_defect::CellDefect;
 use crate::version::Version;
 use audit::Finding;
 use fed_types::{BagId, Ballot, Slot, Vote};
 use std::alloc::{AllocError, Global};
-use words::push_escaped;
+use words::{push_bag, push_ballot, push_escaped, push_slot};
 
 fn fault_word(fault: CellDefect) -> &'static str
     ensures { result.now ≡ fault_word fault }
@@ -54,36 +53,6 @@ fn finding_word(finding: &Finding) -> &'static str
         Finding::Open => "open ",
         Finding::Conflict(..) => "conflict ",
     }
-}
-
-// A slot's object and its version.
-#[tactic(auto, using(std::proofs::Common::append_assoc))]
-fn push_slot(text: &mut String, slot: &Slot) -> Result<(), AllocError>
-    ensures { Pushes result text.old text.new (slot_text slot.now) }
-{
-    push_escaped(text, slot.object())?;
-    let version = slot.version();
-    write!(text, " {version}")
-}
-
-// A space and a bag.
-#[tactic(auto, using(std::proofs::Common::append_assoc))]
-fn push_bag(alloc: Global, text: &mut String, bag: BagId) -> Result<(), AllocError>
-    ensures { Pushes result text.old text.new (bag_text bag) }
-{
-    let digits = hex::encode(alloc, bag.0)?;
-    text.push(' ')?;
-    text.push_str(digits.as_str())
-}
-
-// A space, and a ballot's round and site.
-#[tactic(auto, using(std::proofs::Common::append_assoc))]
-fn push_ballot(text: &mut String, ballot: Ballot) -> Result<(), AllocError>
-    ensures { Pushes result text.old text.new (32 ∷ ballot_text ballot) }
-{
-    let round = ballot.round();
-    let site = ballot.site().number();
-    write!(text, " {round} {site}")
 }
 
 // The chosen bag, and its ballot.

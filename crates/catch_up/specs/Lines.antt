@@ -1,19 +1,10 @@
 -- What is said of each version, and at last of all.
 use Rattle.std.specs.Prelude.{ℕ, List, [], ◌∷◌, ◌++◌, codes, if◌then◌else◌}
 use Rattle.std.specs.Fmt.{decimal}
-use Rattle.hex.specs.Hex.{encode_lower}
 use Rattle.fed_types.specs.declared.bag_id.BagId.{BagId}
 use Rattle.fed_types.specs.Bags.{same_bag}
 use Rattle.fed_types.specs.Slots.{SlotName}
-use Rattle.words.specs.Escapes.{escaped_text}
-
--- an object, as a word, and its version
-abbrev pub slot_text : SlotName → List ℕ
-slot_text slot = escaped_text slot.object ++ (32 ∷ decimal slot.version)
-
--- a space and a bag
-abbrev pub bag_text : BagId → List ℕ
-bag_text bag = 32 ∷ encode_lower bag.0
+use Rattle.words.specs.Written.{slot_text, bag_text}
 
 -- `known OBJ V HEX`: the site knows the bag that the source knows; or `other OBJ V HEX HEX`: it
 -- knows the first, and the source knows the second

@@ -1,12 +1,11 @@
 //! What is said of each version, and at last of all.
 
 ghost use Rattle.std.specs.Prelude.{◌≡◌, ◌++◌, IfOk, string_bytes};
-ghost use Rattle.words.specs.Pushes.{Pushes};
-ghost use Rattle.catch_up.specs.Lines.{slot_text, bag_text, known_line, open_line, count_line};
+ghost use Rattle.catch_up.specs.Lines.{known_line, open_line, count_line};
 
 use fed_types::{BagId, Slot};
 use std::alloc::{AllocError, Global};
-use words::push_escaped;
+use words::{push_bag, push_slot};
 
 /// `known OBJ V HEX`: the site knows the bag that the source knows; or `other OBJ V HEX HEX`: it
 /// knows the first, and the source knows the second.
@@ -48,20 +47,4 @@ pub fn count_line(alloc: Global, same: usize, count: usize) -> Result<String, Al
     ensures { IfOk result (λ line. string_bytes line ≡ count_line same count) }
 {
     format!(in alloc; "{same} of {count}\n")
-}
-
-fn push_slot(line: &mut String, slot: &Slot) -> Result<(), AllocError>
-    ensures { Pushes result line.old line.new (slot_text slot.now) }
-{
-    push_escaped(line, slot.object())?;
-    let version = slot.version();
-    write!(line, " {version}")
-}
-
-fn push_bag(alloc: Global, line: &mut String, bag: BagId) -> Result<(), AllocError>
-    ensures { Pushes result line.old line.new (bag_text bag) }
-{
-    let digits = hex::encode(alloc, bag.0)?;
-    line.push(' ')?;
-    line.push_str(digits.as_str())
 }

@@ -1,9 +1,7 @@
 //! What is said of each deposit.
 
 ghost use Rattle.std.specs.Prelude.{◌≡◌, IfOk, string_bytes};
-ghost use Rattle.catch_up.specs.Lines.{slot_text};
 ghost use Rattle.lines.specs.declared.notice.Notice.TheVariants.{Registered};
-ghost use Rattle.words.specs.Pushes.{Pushes};
 ghost use Rattle.site_commands.specs.Answers.{said};
 ghost use Rattle.deposit_list.specs.Lines.{refused_line, entry_line};
 
@@ -13,7 +11,7 @@ use catch_up::{known_line, open_line};
 use fed_types::{BagId, SiteNo, Slot};
 use lines::{Notice, Options, line_by_identity, push_line};
 use std::alloc::{AllocError, Global};
-use words::push_escaped;
+use words::push_slot;
 
 /// The line of a deposit: `registered N OBJ V HEX`, `refused N CODE OBJ V`, `known OBJ V HEX`,
 /// `other OBJ V HEX HEX`, or `open OBJ V` where nothing is known of it.
@@ -55,12 +53,4 @@ fn refused_line(alloc: Global, to: SiteNo, code: u8, slot: &Slot) -> Result<Stri
     push_slot(&mut line, slot)?;
     line.push('\n')?;
     Ok(line)
-}
-
-fn push_slot(line: &mut String, slot: &Slot) -> Result<(), AllocError>
-    ensures { Pushes result line.old line.new (slot_text slot.now) }
-{
-    push_escaped(line, slot.object())?;
-    let version = slot.version();
-    write!(line, " {version}")
 }

@@ -2,10 +2,8 @@
 -- cell's end.
 use Rattle.std.specs.Prelude.{ℕ, Bool, not, ◌||◌, ◌&&◌, if◌then◌else◌, List, [], ◌∷◌, ◌++◌, codes}
 use Rattle.std.specs.List.{flat_map}
-use Rattle.std.specs.Fmt.{decimal}
-use Rattle.hex.specs.Hex.{encode_lower}
 use Rattle.fed_types.specs.Slots.{SlotName}
-use Rattle.words.specs.Escapes.{escaped_text}
+use Rattle.words.specs.Written.{slot_text, bag_text}
 use Rattle.records.specs.declared.record.Record.{Record}
 use Rattle.ledger.specs.declared.version_filter.VersionFilter.{VersionFilter}
 use Rattle.ledger.specs.declared.standing.Standing.{Standing}
@@ -28,18 +26,17 @@ word_of (Pending bag) = codes "pending "
 word_of (Voted bag) = codes "voted "
 word_of Asked = codes "asked "
 
--- a space and the bag, where one is named
-abbrev pub bag_text : Standing → List ℕ
-bag_text (Known bag) = 32 ∷ encode_lower bag.0
-bag_text (Pending bag) = 32 ∷ encode_lower bag.0
-bag_text (Voted bag) = 32 ∷ encode_lower bag.0
-bag_text Asked = []
+-- the bag, where one is named
+abbrev pub named_bag : Standing → List ℕ
+named_bag (Known bag) = bag_text bag
+named_bag (Pending bag) = bag_text bag
+named_bag (Voted bag) = bag_text bag
+named_bag Asked = []
 
 -- the line of a version
 unfoldable pub version_line : SlotName → Standing → List ℕ
 version_line slot standing =
-    word_of standing ++ (escaped_text slot.object
-    ++ (32 ∷ (decimal slot.version ++ (bag_text standing ++ 10 ∷ []))))
+    word_of standing ++ (slot_text slot ++ (named_bag standing ++ 10 ∷ []))
 
 -- the line of a version that is listed
 abbrev pub listed_line : VersionFilter → SlotName → Standing → List ℕ

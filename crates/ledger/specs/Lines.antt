@@ -2,11 +2,7 @@
 use Rattle.std.specs.Prelude.{ℕ, Bool, if◌then◌else◌, List, [], ◌∷◌, ◌++◌, codes}
 use Rattle.std.specs.List.{flat_map}
 use Rattle.std.specs.Fmt.{decimal}
-use Rattle.hex.specs.Hex.{encode_lower}
-use Rattle.fed_types.specs.declared.vote.Vote.{Vote}
-use Rattle.fed_types.specs.Ballots.{BallotNumber}
-use Rattle.fed_types.specs.Slots.{SlotName}
-use Rattle.words.specs.Escapes.{escaped_text}
+use Rattle.words.specs.Written.{slot_text, bag_text, ballot_text, vote_text}
 use Rattle.records.specs.declared.entry.Entry.{Entry}
 use Rattle.records.specs.declared.entry.Entry.TheVariants as entry
 use Rattle.records.specs.declared.entry.Entry.TheVariants.{Deposit, Round, Promise, Known}
@@ -24,25 +20,13 @@ kind_text (Promise ballot) = codes "promise "
 kind_text (entry.Vote vote) = codes "vote "
 kind_text (Known bag) = codes "known "
 
--- a slot's object and its version, with a space after each
-abbrev pub slot_text : SlotName → List ℕ
-slot_text slot = escaped_text slot.object ++ (32 ∷ (decimal slot.version ++ 32 ∷ []))
-
--- round and site
-abbrev pub ballot_text : BallotNumber → List ℕ
-ballot_text ballot = decimal ballot.round ++ 32 ∷ decimal ballot.site
-
--- ballot and bag
-abbrev pub vote_text : Vote → List ℕ
-vote_text vote = ballot_text vote.ballot ++ 32 ∷ encode_lower vote.bag.0
-
--- what a record says of its slot
+-- what a record says of its slot, a space before each word
 abbrev pub entry_text : Entry → List ℕ
-entry_text (Deposit bag) = encode_lower bag.0
-entry_text (Round round) = decimal round
+entry_text (Deposit bag) = bag_text bag
+entry_text (Round round) = 32 ∷ decimal round
 entry_text (Promise ballot) = ballot_text ballot
 entry_text (entry.Vote vote) = vote_text vote
-entry_text (Known bag) = encode_lower bag.0
+entry_text (Known bag) = bag_text bag
 
 -- the line of a record
 unfoldable pub record_line : Record → List ℕ

@@ -1,15 +1,12 @@
 //! The line of a record.
 
 ghost use Rattle.std.specs.Prelude.{◌≡◌};
-ghost use Rattle.hex.specs.Hex.{encode_lower};
 ghost use Rattle.words.specs.Pushes.{Pushes};
-ghost use Rattle.ledger.specs.Lines.{ballot_text, vote_text, kind_text, slot_text, entry_text};
-ghost use Rattle.ledger.specs.Lines.{record_line};
+ghost use Rattle.ledger.specs.Lines.{kind_text, entry_text, record_line};
 
-use fed_types::{BagId, Ballot, Slot, Vote};
 use records::{Entry, Record};
 use std::alloc::{AllocError, Global};
-use words::push_escaped;
+use words::{push_bag, push_ballot, push_slot, push_vote};
 
 // What a record is.
 fn kind_text(entry: &Entry) -> &'static str
@@ -24,33 +21,6 @@ fn kind_text(entry: &Entry) -> &'static str
     }
 }
 
-/// Appends a slot's object and its version, with a space after each.
-#[tactic(auto, using(std::proofs::Common::append_assoc))]
-fn push_slot(text: &mut String, slot: &Slot) -> Result<(), AllocError>
-    ensures { Pushes result text.old text.new (slot_text slot.now) }
-{
-    push_escaped(text, slot.object())?;
-    let version = slot.version();
-    write!(text, " {version} ")
-}
-
-/// Appends the 128 hex digits of a bag's identity.
-pub(crate) fn push_bag(alloc: Global, text: &mut String, bag: BagId) -> Result<(), AllocError>
-    ensures { Pushes result text.old text.new (encode_lower bag.0) }
-{
-    let digits = hex::encode(alloc, bag.0)?;
-    text.push_str(digits.as_str())
-}
-
-// A ballot's round and site.
-fn push_ballot(text: &mut String, ballot: Ballot) -> Result<(), AllocError>
-    ensures { Pushes result text.old text.new (ballot_text ballot) }
-{
-    let round = ballot.round();
-    let site = ballot.site().number();
-    write!(text, "{round} {site}")
-}
-
 // What a record says of its slot.
 #[tactic(auto, using(std::proofs::Common::append_assoc))]
 fn push_entry(alloc: Global, text: &mut String, entry: &Entry) -> Result<(), AllocError>
@@ -60,21 +30,11 @@ fn push_entry(alloc: Global, text: &mut String, entry: &Entry) -> Result<(), All
         Entry::Deposit(bag) | Entry::Known(bag) => push_bag(alloc, text, *bag),
         Entry::Round(round) => {
             let number = round.number();
-            write!(text, "{number}")
+            write!(text, " {number}")
         }
         Entry::Promise(ballot) => push_ballot(text, *ballot),
         Entry::Vote(vote) => push_vote(alloc, text, *vote),
     }
-}
-
-// The ballot and the bag of a vote.
-#[tactic(auto, using(std::proofs::Common::append_assoc))]
-fn push_vote(alloc: Global, text: &mut String, vote: Vote) -> Result<(), AllocError>
-    ensures { Pushes result text.old text.new (vote_text vote) }
-{
-    push_ballot(text, vote.ballot)?;
-    text.push(' ')?;
-    push_bag(alloc, text, vote.bag)
 }
 
 /// Appends the line of a record.

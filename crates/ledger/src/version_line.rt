@@ -1,24 +1,22 @@
 //! The lines of versions.
 
 ghost use Rattle.std.specs.Prelude.{◌≡◌, ◌∷◌, ◌++◌, List, IfOk, string_bytes};
-ghost use Rattle.hex.specs.Hex.{encode_lower};
 ghost use Rattle.std.specs.List.{flat_map};
 ghost use Rattle.words.specs.Pushes.{Pushes};
 ghost use Rattle.records.specs.declared.record.Record.{Record};
 ghost use Rattle.ledger.specs.Lines.{ending_line};
-ghost use Rattle.ledger.specs.Ledgers.{word_of, bag_text, version_line, listed_line};
+ghost use Rattle.ledger.specs.Ledgers.{word_of, named_bag, version_line, listed_line};
 ghost use Rattle.ledger.specs.Ledgers.{versions_text};
 ghost use Rattle.ledger.specs.inner.Rows.{listed_in, slot_at, text_if, Represents};
 
 use crate::cell_text::push_ending;
 use crate::ending::Ending;
-use crate::record_line::push_bag;
 use crate::standing::Standing;
 use crate::version_filter::VersionFilter;
 use crate::versions::{Versions, slot_at, standing_in};
-use fed_types::{BagId, Slot};
+use fed_types::Slot;
 use std::alloc::{AllocError, Global};
-use words::push_escaped;
+use words::{push_bag, push_slot};
 
 // What is said of a version.
 fn word_of(standing: Standing) -> &'static str
@@ -32,21 +30,13 @@ fn word_of(standing: Standing) -> &'static str
     }
 }
 
-// A bag, after a space.
-fn push_after_space(alloc: Global, text: &mut String, bag: BagId) -> Result<(), AllocError>
-    ensures { Pushes result text.old text.new (32 ∷ encode_lower bag.0) }
-{
-    text.push(' ')?;
-    push_bag(alloc, text, bag)
-}
-
 // The bag that is named, if one is.
 fn push_bag_of(alloc: Global, text: &mut String, standing: Standing) -> Result<(), AllocError>
-    ensures { Pushes result text.old text.new (bag_text standing) }
+    ensures { Pushes result text.old text.new (named_bag standing) }
 {
     match standing {
         Standing::Known(bag) | Standing::Pending(bag) | Standing::Voted(bag) => {
-            push_after_space(alloc, text, bag)
+            push_bag(alloc, text, bag)
         }
         Standing::Asked => Ok(()),
     }
@@ -63,9 +53,7 @@ fn push_version(
     ensures { Pushes result text.old text.new (version_line slot.now standing) }
 {
     text.push_str(word_of(standing))?;
-    push_escaped(text, slot.object())?;
-    let version = slot.version();
-    write!(text, " {version}")?;
+    push_slot(text, slot)?;
     push_bag_of(alloc, text, standing)?;
     text.push('\n')
 }

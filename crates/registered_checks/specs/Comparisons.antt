@@ -1,10 +1,10 @@
 -- Whether the bags that are held are those that are known, and what is reported of that.
 use Rattle.std.specs.Prelude.{ℕ, Bool, ◌&&◌, if◌then◌else◌, List, [], ◌∷◌, ◌++◌, codes}
-use Rattle.std.specs.Fmt.{decimal}
 use Rattle.std.specs.List.{flat_map, list_all, list_any}
 use Rattle.fed_types.specs.Bags.{same_bag}
 use Rattle.fed_types.specs.Slots.{SlotName}
 use Rattle.words.specs.Escapes.{escaped_text}
+use Rattle.words.specs.Written.{slot_text}
 use Rattle.known_bags.specs.declared.known_bag.KnownBag.{KnownBag}
 use Rattle.registered_checks.specs.Held.{Held}
 
@@ -30,7 +30,7 @@ are_equal held known = list_all (is_known known) held && list_all (is_held held)
 
 -- OBJ V
 abbrev pub slot_line : SlotName → List ℕ
-slot_line slot = escaped_text slot.object ++ (32 ∷ (decimal slot.version ++ 10 ∷ []))
+slot_line slot = slot_text slot ++ 10 ∷ []
 
 -- PATH is OBJ V, if it is the known bag of this version
 abbrev pub version_line : Held → KnownBag → List ℕ

@@ -11,7 +11,7 @@ use crate::held_bag::HeldBag;
 use fed_types::Slot;
 use known_bags::KnownBag;
 use std::alloc::{AllocError, Global};
-use words::push_escaped;
+use words::{push_escaped, push_slot};
 
 /// For each bag that is held: a line for each version whose known bag it is, or a line that it is
 /// no known bag. And a line for each version whose known bag isn't held.
@@ -80,7 +80,7 @@ fn push_version(text: &mut String, held: &HeldBag, version: &KnownBag) -> Result
     }
     push_escaped(text, held.path())?;
     text.push_str(" is ")?;
-    push_slot(text, &version.slot)
+    push_slot_line(text, &version.slot)
 }
 
 // The lines of the versions whose known bags aren't held.
@@ -106,15 +106,14 @@ fn push_missing(text: &mut String, held: &[HeldBag], version: &KnownBag) -> Resu
         return Ok(());
     }
     text.push_str("not among these: ")?;
-    push_slot(text, &version.slot)
+    push_slot_line(text, &version.slot)
 }
 
 // An object and a version, to the end of the line.
 #[tactic(auto, using(std::proofs::Common::append_assoc))]
-fn push_slot(text: &mut String, slot: &Slot) -> Result<(), AllocError>
+fn push_slot_line(text: &mut String, slot: &Slot) -> Result<(), AllocError>
     ensures { Pushes result text.old text.new (slot_line slot.now) }
 {
-    push_escaped(text, slot.object())?;
-    let version = slot.version();
-    write!(text, " {version}\n")
+    push_slot(text, slot)?;
+    text.push('\n')
 }

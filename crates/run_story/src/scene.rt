@@ -19,7 +19,7 @@ use lines::Line;
 use records::Entry;
 use schedule::Fate;
 use std::alloc::AllocError;
-use words::push_escaped;
+use words::{push_escaped, push_slot};
 
 /// What the blanks of a sentence are about.
 #[derive(Clone, Copy)]
@@ -140,7 +140,10 @@ impl Scene<'_> {
 
     fn push_slot(&self, text: &mut String, letter: char) -> Result<(), AllocError> {
         match self.slot(letter) {
-            Some(slot) => push_slot(text, slot),
+            Some(slot) => {
+                text.push(' ')?;
+                push_slot(text, slot)
+            }
             None => Ok(()),
         }
     }
@@ -173,12 +176,6 @@ fn push_ballot(text: &mut String, ballot: Option<Ballot>) -> Result<(), AllocErr
         Some(ballot) => write!(text, "({}, {})", ballot.round(), ballot.site().number()),
         None => Ok(()),
     }
-}
-
-fn push_slot(text: &mut String, slot: &Slot) -> Result<(), AllocError> {
-    text.push(' ')?;
-    push_escaped(text, slot.object())?;
-    write!(text, " {}", slot.version())
 }
 
 fn fate_number(fate: Fate) -> usize {

@@ -1,9 +1,8 @@
 //! What was asked for, in words.
 
 use dgram::{Body, Message, decode};
-use fed_types::{BagId, Ballot, Slot, Vote};
 use std::alloc::{AllocError, Global};
-use words::push_escaped;
+use words::{push_bag, push_ballot, push_escaped, push_slot, push_vote};
 
 /// The message that these bytes are, in words: its kind, the object and the version; then, if it
 /// has them, the ballot's round and site, the bag or the folder. Bytes that are no message of this
@@ -33,6 +32,7 @@ pub(crate) fn asks_for(alloc: Global, federation: u64, bytes: &[u8], path: &str)
 
 fn push_message(alloc: Global, text: &mut String, message: &Message) -> Result<(), AllocError> {
     text.push_str(kind(&message.body))?;
+    text.push(' ')?;
     push_slot(text, &message.slot)?;
     push_body(alloc, text, &message.body)
 }
@@ -51,13 +51,6 @@ fn kind(body: &Body) -> &'static str {
         Body::Recover => "recover",
         Body::DepositReply { .. } | Body::QueryReply { .. } => "reply",
     }
-}
-
-fn push_slot(text: &mut String, slot: &Slot) -> Result<(), AllocError> {
-    text.push(' ')?;
-    push_escaped(text, slot.object())?;
-    let version = slot.version();
-    write!(text, " {version}")
 }
 
 fn push_body(alloc: Global, text: &mut String, body: &Body) -> Result<(), AllocError> {
@@ -79,21 +72,4 @@ fn push_body(alloc: Global, text: &mut String, body: &Body) -> Result<(), AllocE
 pub(crate) fn push_word(text: &mut String, word: &str) -> Result<(), AllocError> {
     text.push(' ')?;
     push_escaped(text, word)
-}
-
-fn push_ballot(text: &mut String, ballot: Ballot) -> Result<(), AllocError> {
-    let round = ballot.round();
-    let site = ballot.site().number();
-    write!(text, " {round} {site}")
-}
-
-fn push_vote(alloc: Global, text: &mut String, vote: Vote) -> Result<(), AllocError> {
-    push_ballot(text, vote.ballot)?;
-    push_bag(alloc, text, vote.bag)
-}
-
-fn push_bag(alloc: Global, text: &mut String, bag: BagId) -> Result<(), AllocError> {
-    let digits = hex::encode(alloc, bag.0)?;
-    text.push(' ')?;
-    text.push_str(digits.as_str())
 }

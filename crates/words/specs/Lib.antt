@@ -3,3 +3,4 @@ pub mod Escapes
 pub mod Grammar
 pub mod Pushes
 pub mod Slots
+pub mod Written

@@ -20,6 +20,7 @@ mod line;
 mod number;
 mod slot;
 mod text;
+mod written;
 
 pub use escape::push_escaped;
 pub use law::{numbers_law, words_law};
@@ -27,3 +28,4 @@ pub use line::{first_line, split_words};
 pub use number::parse_number;
 pub use slot::parse_slot;
 pub use text::parse_text;
+pub use written::{push_bag, push_ballot, push_slot, push_vote};
