@@ -2,6 +2,7 @@
 
 use crate::arguments::Task;
 use code_words::{SYNCED, push_name};
+use json_lines::JsonLines;
 use site_commands::{Stop, write_stop};
 use std::alloc::{AllocError, Global};
 use std::io;
@@ -36,11 +37,26 @@ pub(crate) fn refuses_outputs(rt: &HostRuntime, task: &Task<'_>) -> Result<bool,
     match is_output {
         Some(path) if !is_errors => say_output(rt, path)?,
         None if is_errors => {
-            let _ = write_stop(rt.alloc(), &mut io::writer(rt), Stop::SameFile);
+            let output = &mut JsonLines::new(rt.alloc(), wants_json(task), io::writer(rt));
+            let _ = write_stop(rt.alloc(), output, Stop::SameFile);
         }
         _ => {}
     }
     Ok(is_output.is_some() || is_errors)
+}
+
+// Whether lines of JSON are asked for.
+fn wants_json(task: &Task<'_>) -> bool {
+    match task {
+        Task::Check(check) => check.json,
+        Task::Audit(audit) => audit.json,
+        Task::CatchUp(catch_up) => catch_up.json,
+        Task::Members(members) => members.json,
+        Task::Status(status) => status.json,
+        Task::Journal(journal) => journal.json,
+        Task::Ledger(ledger) => ledger.json,
+        Task::Run(_) | Task::Site(_) | Task::Send(_) | Task::Deposits(_) => false,
+    }
 }
 
 // The regular file to which a path leads, if one does.

@@ -4,7 +4,7 @@ use crate::picture_file::{PictureFault, write_picture};
 use crate::run_arguments::RunTask;
 use crate::run_on::run_on;
 use crate::schedule_fault::say_schedule_fault;
-use code_words::{push_name, push_path};
+use code_words::{path_fault, push_name, push_path};
 use outcomes::{ProgramFault, ReadFault, read_all, write_all, write_output};
 use run_page::page_of;
 use run_picture::picture_of;
@@ -18,6 +18,15 @@ use std::os::unix::fs::FileTypeExt;
 
 /// Where standard input is.
 const INPUT: &str = "/proc/self/fd/0";
+
+/// How many bytes of a picture tell it from what other programs draw.
+const FRONT: usize = 39;
+
+/// How each picture begins.
+const PICTURE: &[u8; FRONT] = b"<svg xmlns='http://www.w3.org/2000/svg'";
+
+/// How each page begins.
+const PAGE: &[u8; FRONT] = b"<!doctype html>\n<html lang='en'>\n<head>";
 
 /// Runs the schedule that the task names. What it prints doesn't depend on whether it is also put
 /// into words or drawn.
@@ -56,9 +65,7 @@ fn run_source(rt: &HostRuntime, task: &RunTask<'_>) -> Result<u8, ProgramFault> 
                 }
                 answer => answer,
             },
-            Err(error) if error.kind() == ErrorKind::OutOfMemory => {
-                write_output(&mut io::writer(rt), 1, "memory\n")
-            }
+            Err(error) if error.kind() == ErrorKind::OutOfMemory => write_memory(rt, task),
             Err(error) => {
                 if task.words {
                     let _ = say_unread(rt, path, &error);
@@ -91,6 +98,12 @@ fn say_unread_input(rt: &HostRuntime) {
 fn say_unread(rt: &HostRuntime, path: &str, error: &io::Error) -> Result<(), AllocError> {
     let mut name = String::new(rt.alloc());
     push_path(&mut name, path)?;
+    if path != "-" {
+        if let Some(fault) = path_fault(rt, path, error.kind()) {
+            let _ = eprintln!(rt; "{name} can't be opened: {fault}");
+            return Ok(());
+        }
+    }
     let _ = match error.kind() {
         ErrorKind::NotFound if path == "-" => eprintln!(rt;
             "- isn't there: it is the name of a file here; without one standard input is read"
@@ -127,8 +140,16 @@ fn run_input<R: Read>(
     match read_all(rt.alloc(), input) {
         Ok(bytes) => run_bytes(rt, task, bytes.as_slice()),
         Err(ReadFault::Input) => Err(ProgramFault::Input),
-        Err(ReadFault::Memory) => write_output(&mut output, 1, "memory\n"),
+        Err(ReadFault::Memory) => write_memory(rt, task),
     }
+}
+
+// There is no memory for the schedule.
+fn write_memory(rt: &HostRuntime, task: &RunTask<'_>) -> Result<u8, ProgramFault> {
+    if task.words {
+        let _ = rt.eprintln("memory ran out; try again with more memory");
+    }
+    write_output(&mut io::writer(rt), 1, "memory\n")
 }
 
 // The lines come first, as they would without words and picture.
@@ -246,19 +267,19 @@ fn is_file(rt: &HostRuntime, path: &str) -> bool {
     }
 }
 
-// Whether a file is there that isn't empty and doesn't begin as a picture or a page does: it may be
-// the schedule, or anything else that a slip of the hand named.
+// Whether a file is there that isn't empty and doesn't begin as a picture or a page of this program
+// does: it may be the schedule, or anything else that a slip of the hand named.
 fn is_of_another_kind(rt: &HostRuntime, path: &str) -> bool {
     if !is_file(rt, path) {
         return false;
     }
-    let mut front = [0u8; 5];
+    let mut front = [0u8; FRONT];
     let Ok(mut file) = File::open(rt, path) else {
         return false;
     };
     match file.read(&mut front) {
         Ok(0) | Err(_) => false,
-        Ok(_) => front != *b"<svg " && front != *b"<!doc",
+        Ok(_) => front != *PICTURE && front != *PAGE,
     }
 }
 

@@ -14,9 +14,10 @@ const EXAMPLE: &str = "Each file is a cell, which may be in use and is never cha
 the bags that it knows. The site is asked for each version for which one of the
 files knows a bag. It asks the other sites for what it doesn't know. So it is
 asked again, after pauses of 2 ms to a second, until it knows all, or until
---for seconds have passed. Once it is asked each second, the sites recover what
-is left, one after the other: so it learns even what no running site knows, if
-one has voted for it. For each known bag of each file it prints
+--for seconds have passed and each version was asked for: if it is down, each
+takes twice --wait. Once it is asked each second, the sites recover what is
+left, one after the other: so it learns even what no running site knows, if one
+has voted for it. For each known bag of each file it prints
   known OBJ V HEX       the site knows the bag that the file knows
   other OBJ V HEX HEX   it knows the first, and the file knows the second
   open OBJ V            it didn't know the version when time was over

@@ -60,9 +60,9 @@ impl<'a> VersionSpeaker<'a> {
     // Appends what a line says of the first file that can't be used, if one can't. What came
     // through a pipe isn't looked at again: it is gone.
     fn push_file(&self, text: &mut String, line: &str) -> Result<(), AllocError> {
-        if meaning_of_line(self.rt.alloc(), line)?.is_none() {
+        let Some(meaning) = meaning_of_line(self.rt.alloc(), line)? else {
             return Ok(());
-        }
+        };
         for path in self.files {
             if first_piped(self.rt, &[*path]).is_some() {
                 continue;
@@ -73,7 +73,11 @@ impl<'a> VersionSpeaker<'a> {
             }
         }
         match first_piped(self.rt, self.files) {
-            Some(path) => push_gone(text, path),
+            Some(path) => {
+                meaning.push(text)?;
+                text.push_str("; ")?;
+                push_gone(text, path)
+            }
             None => Ok(()),
         }
     }
@@ -94,9 +98,9 @@ impl<'a> VersionSpeaker<'a> {
         push_slot(text, object, version)?;
         write!(
             text,
-            "site {site} knew no bag after {seconds} s: it is down, doesn't hear sites with more \
-            than half of all weight, or has other keys, or the file is of another federation; see \
-            whether the sites run, and give --for more"
+            "site {site} named no bag, though it was asked for {seconds} s or longer: it is down, \
+            doesn't hear sites with more than half of all weight, or has other keys, or the file \
+            is of another federation; see whether the sites run, and give --for more"
         )
     }
 }

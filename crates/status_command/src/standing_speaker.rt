@@ -133,9 +133,9 @@ impl<'a> StandingSpeaker<'a> {
     // Appends what a line says of the first file that can't be used, if one can't. What came
     // through a pipe isn't looked at again: it is gone.
     fn push_file(&self, text: &mut String, line: &str) -> Result<(), AllocError> {
-        if meaning_of_line(self.rt.alloc(), line)?.is_none() {
+        let Some(meaning) = meaning_of_line(self.rt.alloc(), line)? else {
             return Ok(());
-        }
+        };
         for path in self.files {
             if first_piped(self.rt, &[*path]).is_some() {
                 continue;
@@ -146,7 +146,11 @@ impl<'a> StandingSpeaker<'a> {
             }
         }
         match first_piped(self.rt, self.files) {
-            Some(path) => push_gone(text, path),
+            Some(path) => {
+                meaning.push(text)?;
+                text.push_str("; ")?;
+                push_gone(text, path)
+            }
             None => Ok(()),
         }
     }
