@@ -57,8 +57,9 @@ pub static OTHERS: [Meaning; 30] = [
     },
     Meaning {
         code: "same file",
-        words: "two of --cell, --members and --log name one file",
-        advice: "give each a file of its own",
+        words: "two of --cell, --members and --log name one file, or an output is a file that the \
+            command needs",
+        advice: "give each a file of its own, and send the output elsewhere",
     },
     Meaning {
         code: "key unread",
