@@ -7,8 +7,9 @@ pub static OPEN: [Meaning; 6] = [
     Meaning {
         code: "open 1",
         words: "the cell is that of another federation",
-        advice: "find the right one, and never delete this one; only a site that has never served \
-            may begin with a new one",
+        advice: "see which is wrong, the cell or the members file: `bagpaxos journal CELL` names \
+            the cell's federation; never delete the cell; only a site that has never served may \
+            begin with a new one",
     },
     Meaning {
         code: "open 2",
