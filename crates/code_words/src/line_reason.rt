@@ -184,11 +184,11 @@ fn push_silence(rt: &HostRuntime, text: &mut String, asked: &Asked<'_>) -> Resul
     let site = asked.site;
     let wait = asked.wait;
     write!(text, "site {site} didn't answer in {wait} ms")?;
-    if let Some(place) = place_of(rt, asked) {
-        match place {
-            Place::Port(port) => write!(text, " at port {port}")?,
-            Place::Address(address) => write!(text, " at {address}")?,
-        }
+    let place = place_of(rt, asked);
+    match &place {
+        Some(Place::Port(port)) => write!(text, " at port {port}")?,
+        Some(Place::Address(address)) => write!(text, " at {address}")?,
+        None => {}
     }
     if asked.path.is_some() {
         text.push_str(
@@ -199,10 +199,23 @@ fn push_silence(rt: &HostRuntime, text: &mut String, asked: &Asked<'_>) -> Resul
             "; it is down, or may be reading a large bag: see whether it runs, and ask again",
         )?;
     }
+    text.push_str(refused_way(&place))?;
     text.push_str(
         "; or its members file is of another federation, or it has another key, or only one of the \
         two has a key: `bagpaxos members` and `bagpaxos members --key` say which they are",
     )
+}
+
+// Why nothing may come to a site at this place, or back, though it runs. Sites at ports are on this
+// machine.
+fn refused_way(place: &Option<Place>) -> &'static str {
+    match place {
+        Some(Place::Port(_)) => "; or a packet filter of this machine refuses the datagrams",
+        _ => {
+            "; or a packet filter of this machine or of the site's refuses the datagrams, or this \
+            machine has no way to the site's address"
+        }
+    }
 }
 
 // Whether a site replies this of a version.

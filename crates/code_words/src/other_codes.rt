@@ -31,7 +31,8 @@ pub static OTHERS: [Meaning; 30] = [
     },
     Meaning {
         code: "no answer",
-        words: "the site didn't answer in time: it is down, or busy with a bag",
+        words: "the site didn't answer in time: it is down, or busy with a bag, or a packet filter \
+            refuses the datagrams, or this machine has no way to its address",
         advice: "see whether it runs, and ask again; deposit again only if it then says `nothing`",
     },
     Meaning {
