@@ -3,7 +3,7 @@ use Rattle.std.specs.Prelude.{ℕ, ◌+◌, ◌==◌, nat_le, Bool, not, ◌&&�
 use Rattle.std.specs.Prelude.{List, [], ◌∷◌, length, filter, codes}
 use Rattle.std.specs.Prelude.{Option, None, Some, is_some, option_map, option_and_then, slice_get}
 use Rattle.std.specs.Char.{is_ascii_alphanumeric, is_ascii_hexdigit}
-use Rattle.std.specs.List.{prefix_len, slice_split, flat_map}
+use Rattle.std.specs.List.{prefix_len, slice_split, flat_map, list_any}
 use Rattle.std.specs.Str.{str_eq_ignore_ascii_case}
 
 -- so many places further
@@ -39,3 +39,8 @@ name_before pieces name =
 unfoldable pub key_name : List (List ℕ) → Option (List ℕ)
 key_name words =
     option_and_then (name_before (pieces_of words)) (slice_get (pieces_of words) 0)
+
+-- one line of a text seems to be that of a key file
+abbrev pub has_key_line : List ℕ → Bool
+has_key_line text =
+    list_any (λ line. is_some (key_name (line ∷ []))) (slice_split (λ byte. byte == 10) text)

@@ -65,6 +65,14 @@ pub(crate) fn is_piped(rt: &HostRuntime, path: &str) -> bool {
     }
 }
 
+/// Whether the file of this path is there, and empty.
+pub(crate) fn is_empty(rt: &HostRuntime, path: &str) -> bool {
+    match fs::metadata(rt, path) {
+        Ok(found) => found.is_file() && found.len() == 0,
+        Err(_) => false,
+    }
+}
+
 /// Whether a device is at this path, as `/dev/null`.
 pub(crate) fn is_device(rt: &HostRuntime, path: &str) -> bool {
     match fs::metadata(rt, path) {

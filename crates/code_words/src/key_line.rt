@@ -1,10 +1,12 @@
 //! Lines of a key file, and digits that may be a key's.
 
-ghost use Rattle.std.specs.Prelude.{◌≡◌, ◌<◌, ◌≤◌, length, IfSome, is_some, slice_get, map};
+ghost use Rattle.std.specs.Prelude.{◌≡◌, ◌<◌, ◌≤◌, ◌∷◌, [], length, IfSome, is_some, slice_get};
+ghost use Rattle.std.specs.Prelude.{map};
 ghost use Rattle.std.specs.Char.{is_ascii_hexdigit};
 ghost use Rattle.std.specs.List.{prefix_len};
 ghost use Rattle.std.specs.Option.{option_copied};
 ghost use Rattle.code_words.specs.Keys.{hidden_digits, pieces_of, is_key_name, key_name};
+ghost use Rattle.code_words.specs.Keys.{has_key_line};
 
 /// So many digits in a row aren't shown: half of those of a key.
 const HIDDEN: usize = 64;
@@ -76,4 +78,21 @@ fn is_key_name(name: &[u8]) -> bool
     ensures { result ≡ is_key_name name.now }
 {
     name.eq_ignore_ascii_case(b"sites") || name.eq_ignore_ascii_case(b"clients")
+}
+
+/// Whether one line of a text seems to be that of a key file.
+pub(crate) fn has_key_line(text: &[u8]) -> bool
+    ensures { result ≡ has_key_line text.now }
+{
+    text.split(|byte| *byte == b'\n').any(|line| is_named(line))
+}
+
+// Whether a line seems to be that of a key file.
+fn is_named(line: &[u8]) -> bool
+    ensures { result ≡ is_some (key_name (line.now ∷ [])) }
+{
+    match key_name(&[line]) {
+        Some(_) => true,
+        None => false,
+    }
 }

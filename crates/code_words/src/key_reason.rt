@@ -2,6 +2,7 @@
 
 use crate::file_kind::{FileKind, kind_of};
 use crate::file_reason::bytes_at;
+use crate::key_line::has_key_line;
 use crate::text_lines::line_at;
 use std::alloc::{AllocError, Global};
 use words::{first_line, split_words};
@@ -26,6 +27,13 @@ pub(crate) fn key_reason(
         Some(kind) if number == 1 && kind != FileKind::Key => Ok(Some(kind.said())),
         _ => line_reason(rt.alloc(), line_at(text, number)),
     }
+}
+
+/// Whether the file of this path can be read, and no line of what it begins with seems to be that of
+/// a key file.
+pub(crate) fn is_unlike_key(rt: &HostRuntime, path: &str) -> bool {
+    let bytes = bytes_at(rt, path);
+    !bytes.is_empty() && !has_key_line(bytes.as_slice())
 }
 
 // Whether a text has a line of this number.

@@ -3,9 +3,9 @@
 use crate::asked::Asked;
 use crate::cell_reason::{other_file, push_cell_reason, push_other};
 use crate::deposited::push_deposited;
-use crate::file_kind::kind_at;
-use crate::file_reason::{is_piped, push_file_reason};
-use crate::key_reason::key_reason;
+use crate::file_kind::{FileKind, kind_at};
+use crate::file_reason::{is_empty, is_piped, push_file_reason};
+use crate::key_reason::{is_unlike_key, key_reason};
 use crate::meaning::Meaning;
 use crate::members_reason::{place_of, push_line_reason, push_stranger};
 use crate::name::push_name;
@@ -18,6 +18,11 @@ use std::alloc::{AllocError, Global};
 const NOT_HAD: &str =
     " can't be had: another process has it, this machine hasn't that address, or the system \
     refuses it; `ss -lunp` and `ip address` say which";
+
+/// What is said of a file to which others have rights, if no line of it is like those of a key file.
+const UNLIKE_A_KEY: &str =
+    " doesn't look like a key file: look at the path; if it holds keys, `chmod 600` it and make new \
+    ones";
 
 /// Appends what a line says, if it has a code.
 pub(crate) fn push_reason(
@@ -147,7 +152,7 @@ fn push_key(rt: &HostRuntime, text: &mut String, asked: &Asked<'_>) -> Result<()
     }
 }
 
-// Appends that others have rights to the key file, or that the file is none at all.
+// Appends that others have rights to the key file, or that the file seems to be none at all.
 fn push_open_key(
     rt: &HostRuntime,
     text: &mut String,
@@ -156,15 +161,23 @@ fn push_open_key(
 ) -> Result<(), AllocError> {
     if let Some(key) = asked.key {
         match kind_at(rt, key) {
-            Some(kind) if kind.is_no_key() => {
+            Some(kind) if kind.is_no_key() => return push_no_key(text, key, kind),
+            _ if is_empty(rt, key) => return push_no_key(text, key, FileKind::Empty),
+            _ if is_unlike_key(rt, key) => {
                 push_name(text, key)?;
-                let name = kind.name();
-                return write!(text, " isn't a key file: it is {name}");
+                return text.push_str(UNLIKE_A_KEY);
             }
             _ => {}
         }
     }
     push_meaning(rt, text, asked, line)
+}
+
+// Appends of which kind the file of this name is, in place of a key file.
+fn push_no_key(text: &mut String, name: &str, kind: FileKind) -> Result<(), AllocError> {
+    push_name(text, name)?;
+    let kind = kind.name();
+    write!(text, " isn't a key file: it is {kind}")
 }
 
 fn push_bags(rt: &HostRuntime, text: &mut String, asked: &Asked<'_>) -> Result<(), AllocError> {
