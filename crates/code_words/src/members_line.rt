@@ -1,6 +1,7 @@
 //! What is wrong with a line of a members file.
 
 use crate::federation_line::push_mark_words;
+use crate::key_line::hidden_digits;
 use crate::kind::Kind;
 use crate::line_kind::push_list_kind;
 use crate::place_pair::push_pair_words;
@@ -8,7 +9,7 @@ use crate::place_word::push_place_words;
 use crate::schedule_command::{push_first_fault, push_missing, push_wrong};
 use crate::schedule_line::push_tab_words;
 use crate::text_lines::line_at;
-use crate::word_text::push_found;
+use crate::word_text::{push_bytes, push_found};
 use members_file::Place;
 use std::alloc::{AllocError, Global};
 use std::str;
@@ -26,7 +27,7 @@ pub(crate) fn push_members_words(
     let line = line_at(file, number);
     let words = split_words(alloc, line)?;
     if number <= 1 {
-        push_federation_words(text, words.as_slice())?;
+        push_federation_words(alloc, text, words.as_slice())?;
         push_list_kind(text, line)?;
     } else {
         push_site_words(alloc, text, file, number, words.as_slice())?;
@@ -34,11 +35,21 @@ pub(crate) fn push_members_words(
     push_tab_words(text, line)
 }
 
-fn push_federation_words(text: &mut String, words: &[&[u8]]) -> Result<(), AllocError> {
+fn push_federation_words(
+    alloc: Global,
+    text: &mut String,
+    words: &[&[u8]],
+) -> Result<(), AllocError> {
     text.push_str(
         "the first line has to be federation F, F being 0 to 18446744073709551615; found ",
     )?;
-    push_found(text, words)?;
+    match words {
+        [name, arguments @ ..]
+            if is_sites(name, arguments) && has_number_and_place(alloc, arguments)? => {
+            return push_sites(text, name);
+        }
+        _ => push_found(text, words)?,
+    }
     if let Some(first) = words.first() {
         push_mark_words(text, first)?;
     }
@@ -57,7 +68,10 @@ fn push_site_words(
         text,
         "here comes site {site} PORT, or that and a weight; found "
     )?;
-    push_found(text, words)?;
+    match words {
+        [name, arguments @ ..] if is_sites(name, arguments) => return push_sites(text, name),
+        _ => push_found(text, words)?,
+    }
     let [name, arguments @ ..] = words else {
         return text.push_str(": there is no site, or a blank line before the last");
     };
@@ -66,6 +80,29 @@ fn push_site_words(
     }
     text.push_str(": ")?;
     push_argument_words(alloc, text, file, number, arguments)
+}
+
+// Whether a line has `sites` in place of `site`, and after it no digits that may be a key's.
+fn is_sites(name: &[u8], arguments: &[&[u8]]) -> bool {
+    name.eq_ignore_ascii_case(b"sites")
+        && arguments.iter().all(|word| hidden_digits(word).is_none())
+}
+
+// Whether these words begin as those after `site` do.
+fn has_number_and_place(alloc: Global, arguments: &[&[u8]]) -> Result<bool, AllocError> {
+    match arguments {
+        [site, place, ..] => {
+            Ok(Kind::Number.takes(alloc, site)? && Place::parse(alloc, place)?.is_some())
+        }
+        _ => Ok(false),
+    }
+}
+
+// Appends this name of a line, and what to write in its place. What stands after it isn't shown.
+fn push_sites(text: &mut String, name: &[u8]) -> Result<(), AllocError> {
+    text.push('"')?;
+    push_bytes(text, name)?;
+    text.push_str(" ..\": write `site`, not `sites`")
 }
 
 // Appends what is wrong with the words after `site`.
