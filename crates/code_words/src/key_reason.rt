@@ -29,8 +29,8 @@ pub(crate) fn key_reason(
     }
 }
 
-/// Whether the file of this path can be read, and no line of what it begins with seems to be that of
-/// a key file.
+/// Whether the file of this path can be read, and no line of what it begins with seems to be that
+/// of a key file.
 pub(crate) fn is_unlike_key(rt: &HostRuntime, path: &str) -> bool {
     let bytes = bytes_at(rt, path);
     !bytes.is_empty() && !has_key_line(bytes.as_slice())

@@ -19,10 +19,11 @@ const NOT_HAD: &str =
     " can't be had: another process has it, this machine hasn't that address, or the system \
     refuses it; `ss -lunp` and `ip address` say which";
 
-/// What is said of a file to which others have rights, if no line of it is like those of a key file.
+/// What is said of a file to which others have rights, if no line of it is like those of a key
+/// file.
 const UNLIKE_A_KEY: &str =
-    " doesn't look like a key file: look at the path; if it holds keys, `chmod 600` it and make new \
-    ones";
+    " doesn't look like a key file: look at the path; if it holds keys, `chmod 600` it and make \
+    new ones";
 
 /// Appends what a line says, if it has a code.
 pub(crate) fn push_reason(
@@ -45,6 +46,7 @@ pub(crate) fn push_reason(
         "open 4" => push_cell(rt, text, asked),
         _ if is_reply(line, "pending") => push_in_vain(text, asked),
         _ if is_reply(line, "nothing") => push_unheard(text, asked, line),
+        _ if is_reply(line, "known") || is_deposited(asked, line) => push_escaped(text, line),
         _ => push_meaning(rt, text, asked, line),
     }
 }
@@ -234,6 +236,11 @@ fn refused_way(place: &Option<Place>) -> &'static str {
 // Whether a site replies this of a version.
 fn is_reply(line: &str, what: &str) -> bool {
     line.starts_with("reply ") && line.split(' ').nth(4) == Some(what)
+}
+
+// Whether a client's deposit is registered, and not one of a site's lines says so.
+fn is_deposited(asked: &Asked<'_>, line: &str) -> bool {
+    asked.cell.is_none() && line.starts_with("registered ")
 }
 
 // Appends why a site may know no bag of a version of which it has heard nothing, where it was asked
