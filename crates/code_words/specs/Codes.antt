@@ -49,4 +49,5 @@ other_codes =
     ∷ codes "key same file" ∷ codes "key exists" ∷ codes "key unwritten" ∷ codes "bags unread"
     ∷ codes "deposits unread" ∷ codes "deposits line N" ∷ codes "socket" ∷ codes "torn BYTES"
     ∷ codes "damaged OFFSET" ∷ codes "ledger line N" ∷ codes "in-use CELL" ∷ codes "unread CELL"
-    ∷ codes "foreign CELL" ∷ codes "damaged CELL OFFSET" ∷ codes "conflict OBJ V HEX HEX" ∷ []
+    ∷ codes "foreign CELL" ∷ codes "damaged CELL OFFSET" ∷ codes "conflict OBJ V HEX HEX"
+    ∷ codes "other OBJ V HEX HEX" ∷ codes "open OBJ V" ∷ codes "site S silent" ∷ []

@@ -3,7 +3,7 @@
 use crate::meaning::Meaning;
 
 /// What these lines say.
-pub static OTHERS: [Meaning; 30] = [
+pub static OTHERS: [Meaning; 33] = [
     Meaning {
         code: "memory",
         words: "memory ran out",
@@ -157,5 +157,23 @@ pub static OTHERS: [Meaning; 30] = [
         code: "conflict OBJ V HEX HEX",
         words: "two bags are known as one version",
         advice: "docs/AUDIT.md has what may be the cause",
+    },
+    Meaning {
+        code: "other OBJ V HEX HEX",
+        words: "the site knows the first bag as this version; the second is in the list, or was \
+            deposited",
+        advice: "deposit yours as another version; after `catch-up`, audit the cells: \
+            docs/AUDIT.md",
+    },
+    Meaning {
+        code: "open OBJ V",
+        words: "no bag of this version was learned; after `send --deposits`, the site isn't known \
+            to have the deposit",
+        advice: "ask again, give more cells, or send the same list again",
+    },
+    Meaning {
+        code: "site S silent",
+        words: "the site didn't answer",
+        advice: "see whether it runs, and ask again",
     },
 ];
