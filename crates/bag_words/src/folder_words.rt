@@ -5,7 +5,7 @@ use crate::counts::{Counts, push_counts};
 use crate::empty_folders::push_empty_folders;
 use crate::finding::{Finding, findings_in};
 use crate::lenient::{Gathered, gather};
-use crate::list_kind::{kind_with, said_of};
+use crate::list_kind::{Names, Source, kind_with, said_of};
 use crate::listed::TextLines;
 use crate::near_names::NearNames;
 use crate::oxum::push_oxum;
@@ -47,21 +47,24 @@ pub(crate) fn push_read_words(
 }
 
 /// Appends the words on a folder that can't be read, for this reason: each place that can't be
-/// read, and the words on what can. Of the list that has it, what it is if it is none of folders,
-/// and this wasn't said before.
+/// read, and the words on what can. Of a list that has its name, what it is if it is none of
+/// folders, and this wasn't said before.
 pub(crate) fn push_unread_words(
     rt: &HostRuntime,
     text: &mut String,
     folder: &str,
     fault: TreeFault,
     wanted: Wanted,
-    list: &mut Option<FileKind>,
+    source: &mut Source,
 ) -> Result<(), AllocError> {
     if let Some(meaning) = unread(fault.number()) {
         let code = meaning.code;
         write!(text, "{code}: ")?;
         meaning.push(text)?;
-        push_line_fault(text, folder, list)?;
+        match source.names {
+            Names::Given => push_given_fault(text, folder)?,
+            Names::Listed => push_line_fault(text, folder, &mut source.kind)?,
+        }
         text.push('\n')?;
     }
     let Gathered { facts, places } = gather(rt, folder, wanted == Wanted::All)?;
@@ -87,6 +90,17 @@ pub(crate) fn push_unread_words(
         }
         None => Ok(()),
     }
+}
+
+// Appends why a name that is an argument may be that of no folder.
+fn push_given_fault(text: &mut String, folder: &str) -> Result<(), AllocError> {
+    if folder.is_empty() {
+        return text.push_str("; its name is empty");
+    }
+    if folder.ends_with('\r') {
+        return text.push_str("; its name ends with a carriage return");
+    }
+    Ok(())
 }
 
 // Appends of which other kind the list is that has this name as a line, once; or else why the name

@@ -3,7 +3,7 @@
 //!
 //! ```
 //! let are_named = task.named || task.paths.len() != 1;
-//! SpokenFolders::new(rt, wanted_words(task), are_named, folders)
+//! SpokenFolders::new(rt, wanted_words(task), are_named, names, folders)
 //! ```
 #![tactic(auto)]
 
@@ -28,4 +28,5 @@ mod tag_files;
 mod twins;
 mod unread;
 
+pub use list_kind::Names;
 pub use spoken_folders::{SpokenFolders, Wanted};

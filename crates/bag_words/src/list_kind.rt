@@ -1,6 +1,23 @@
-//! What kind of list has a line that isn't the name of a folder.
+//! Where the names of folders come from, and what kind of list has a line that isn't one.
 
 use code_words::{FileKind, is_key_line, kind_of};
+
+/// Where the names of folders come from.
+#[derive(Clone, Copy, Debug, PartialEq, Eq)]
+pub enum Names {
+    /// They are arguments.
+    Given,
+    /// They stand in a list.
+    Listed,
+}
+
+/// Where they come from, and what was said of that.
+#[derive(Clone, Copy, Debug)]
+pub(crate) struct Source {
+    pub(crate) names: Names,
+    /// What was said of the list that has them, if it is none of folders.
+    pub(crate) kind: Option<FileKind>,
+}
 
 /// What kind of file a list may be that has this line in place of a folder's name, if it is another
 /// than a list of folders.

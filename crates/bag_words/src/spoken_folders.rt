@@ -1,10 +1,11 @@
 //! Folders for which a check says in words what it finds.
 
 use crate::folder_words::{push_read_words, push_unread_words};
+use crate::list_kind::{Names, Source};
 use bag_check::BagFault;
 use bag_folders::Folders;
 use bag_tree::{Facts, TreeFault};
-use code_words::{FileKind, push_line_name};
+use code_words::push_line_name;
 use std::alloc::AllocError;
 use std::io::IsTerminal;
 
@@ -37,17 +38,17 @@ struct Words<'a> {
     are_named: bool,
     folder: String,
     text: String,
-    /// What was said of the list that has the names, if it is none of folders.
-    list: Option<FileKind>,
+    source: Source,
 }
 
 impl<'a, F: Folders> SpokenFolders<'a, F> {
-    /// These folders, with words where they are wanted, and the folder before each line where these
-    /// are named.
+    /// These folders, whose names come from there, with words where they are wanted, and the folder
+    /// before each line where these are named.
     pub fn new(
         rt: &'a HostRuntime,
         wanted: Wanted,
         are_named: bool,
+        names: Names,
         folders: F,
     ) -> SpokenFolders<'a, F> {
         let words = Words {
@@ -56,7 +57,7 @@ impl<'a, F: Folders> SpokenFolders<'a, F> {
             are_named,
             folder: String::new(rt.alloc()),
             text: String::new(rt.alloc()),
-            list: None,
+            source: Source { names, kind: None },
         };
         SpokenFolders { folders, words }
     }
@@ -113,8 +114,8 @@ impl Words<'_> {
     fn note_unread(&mut self, path: &str, fault: TreeFault) {
         if self.wanted != Wanted::Nothing && self.folder.push_str(path).is_ok() {
             let wanted = self.wanted;
-            let list = &mut self.list;
-            let _ = push_unread_words(self.rt, &mut self.text, path, fault, wanted, list);
+            let source = &mut self.source;
+            let _ = push_unread_words(self.rt, &mut self.text, path, fault, wanted, source);
         }
     }
 

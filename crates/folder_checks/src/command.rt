@@ -11,7 +11,7 @@ use crate::report::{Detail, Question};
 use crate::tallied_folders::TalliedFolders;
 use crate::tally::Tally;
 use bag_folders::Folders;
-use bag_words::{SpokenFolders, Wanted};
+use bag_words::{Names, SpokenFolders, Wanted};
 use counted_writes::{CountedWrite, CountedWriter, write_output};
 use file_words::{push_file_words, say_no_line};
 use outcomes::{ProgramFault, ReadFault};
@@ -175,7 +175,12 @@ pub fn spoken_folders<'a, F: Folders>(
     folders: F,
 ) -> SpokenFolders<'a, F> {
     let are_named = task.named || task.paths.len() != 1;
-    SpokenFolders::new(rt, wanted_words(task), are_named, folders)
+    let names = if task.list.is_some() {
+        Names::Listed
+    } else {
+        Names::Given
+    };
+    SpokenFolders::new(rt, wanted_words(task), are_named, names, folders)
 }
 
 // Which words are wanted.
