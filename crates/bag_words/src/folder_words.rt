@@ -64,6 +64,7 @@ pub(crate) fn push_unread_words(
         match source.names {
             Names::Given => push_given_fault(text, folder)?,
             Names::Listed => push_line_fault(text, folder, &mut source.kind)?,
+            Names::Mistaken => {}
         }
         text.push('\n')?;
     }

@@ -9,6 +9,8 @@ pub enum Names {
     Given,
     /// They stand in a list.
     Listed,
+    /// They are taken from a file that is no list, so those that can't be read are none.
+    Mistaken,
 }
 
 /// Where they come from, and what was said of that.

@@ -110,8 +110,12 @@ impl Words<'_> {
         }
     }
 
-    // Notes what is to be said of one that can't be read.
+    // Notes what is to be said of one that can't be read. Where the list is none, that is said
+    // elsewhere.
     fn note_unread(&mut self, path: &str, fault: TreeFault) {
+        if self.source.names == Names::Mistaken {
+            return;
+        }
         if self.wanted != Wanted::Nothing && self.folder.push_str(path).is_ok() {
             let wanted = self.wanted;
             let source = &mut self.source;

@@ -5,6 +5,7 @@ use crate::arguments::CheckTask;
 use crate::folder_list::{FolderList, list_bytes, names_in};
 use crate::named::push_escaped_bytes;
 use crate::named_folders::check_names_on;
+use crate::other_list::other_list;
 use crate::progress::{Progress, Saying};
 use crate::read_folders::{Digests, ReadFolders};
 use crate::report::{Detail, Question};
@@ -12,8 +13,9 @@ use crate::tallied_folders::TalliedFolders;
 use crate::tally::Tally;
 use bag_folders::Folders;
 use bag_words::{Names, SpokenFolders, Wanted};
+use code_words::say_text;
 use counted_writes::{CountedWrite, CountedWriter, write_output};
-use file_words::{push_file_words, say_no_line};
+use file_words::{push_file_words, push_source_name, say_no_line};
 use outcomes::{ProgramFault, ReadFault};
 use std::alloc::{AllocError, Global};
 use std::io::{IsTerminal, Stderr};
@@ -50,14 +52,35 @@ fn check_listed(
     };
     match names_in(rt.alloc(), bytes.as_slice(), list.end) {
         Ok(names) => {
-            let answer = check_names(rt, task, names.as_slice(), &mut output);
-            if task.words {
-                say_names(rt, list.path, names.as_slice());
+            let other = if task.words {
+                other_list(bytes.as_slice(), list.end)
+            } else {
+                None
+            };
+            let from = if other.is_some() {
+                Names::Mistaken
+            } else {
+                Names::Listed
+            };
+            let answer = check_names(rt, task, names.as_slice(), from, &mut output);
+            match other {
+                Some(said) => say_text(rt, other_words(rt, list.path, said)),
+                None if task.words => say_names(rt, list.path, names.as_slice()),
+                None => {}
             }
             answer
         }
         Err(AllocError) => write_output(&mut output, 1, no_memory(task)),
     }
+}
+
+// What the list of this path is in place of one of folders.
+fn other_words(rt: &HostRuntime, path: &str, said: &str) -> Result<String, AllocError> {
+    let mut text = String::new(rt.alloc());
+    push_source_name(&mut text, path)?;
+    text.push_str(": ")?;
+    text.push_str(said.strip_prefix("; ").unwrap_or(said))?;
+    Ok(text)
 }
 
 // Says which names of a list aren't UTF-8, and so are those of no folder; or that there are none.
@@ -81,7 +104,7 @@ fn say_names(rt: &HostRuntime, list: &str, names: &[&[u8]]) {
 fn check_named(rt: &HostRuntime, task: &CheckTask<'_>) -> Result<u8, ProgramFault> {
     let mut output = CountedWriter::new(io::writer(rt));
     match names_of(rt.alloc(), task.paths.as_slice()) {
-        Ok(names) => check_names(rt, task, names.as_slice(), &mut output),
+        Ok(names) => check_names(rt, task, names.as_slice(), Names::Given, &mut output),
         Err(AllocError) => write_output(&mut output, 1, no_memory(task)),
     }
 }
@@ -124,10 +147,11 @@ fn check_names<W: CountedWrite>(
     rt: &HostRuntime,
     task: &CheckTask<'_>,
     names: &[&[u8]],
+    from: Names,
     output: &mut W,
 ) -> Result<u8, ProgramFault> {
     let folders = TalliedFolders::new(rt, digests(task), tally(rt, task, names));
-    let mut folders = spoken_folders(rt, task, folders);
+    let mut folders = spoken_from(rt, task, from, folders);
     let answer = check_names_on(rt.alloc(), &mut folders, names, task.form(), output);
     folders.folders().end();
     folders.say();
@@ -167,20 +191,25 @@ fn check_given(rt: &HostRuntime, task: &CheckTask<'_>) -> Result<u8, ProgramFaul
     }
 }
 
-/// These folders. If that is asked for, they explain each check in words on standard error, after
-/// the folder's line; they explain the last folder once `say` is called.
+/// These folders, which the arguments name. If that is asked for, they explain each check in words
+/// on standard error, after the folder's line; they explain the last folder once `say` is called.
 pub fn spoken_folders<'a, F: Folders>(
     rt: &'a HostRuntime,
     task: &CheckTask<'_>,
     folders: F,
 ) -> SpokenFolders<'a, F> {
+    spoken_from(rt, task, Names::Given, folders)
+}
+
+// The same, with names from there.
+fn spoken_from<'a, F: Folders>(
+    rt: &'a HostRuntime,
+    task: &CheckTask<'_>,
+    from: Names,
+    folders: F,
+) -> SpokenFolders<'a, F> {
     let are_named = task.named || task.paths.len() != 1;
-    let names = if task.list.is_some() {
-        Names::Listed
-    } else {
-        Names::Given
-    };
-    SpokenFolders::new(rt, wanted_words(task), are_named, names, folders)
+    SpokenFolders::new(rt, wanted_words(task), are_named, from, folders)
 }
 
 // Which words are wanted.

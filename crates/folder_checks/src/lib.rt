@@ -20,6 +20,7 @@ mod law;
 mod measure;
 mod named;
 mod named_folders;
+mod other_list;
 mod progress;
 mod read_folders;
 mod report;
