@@ -22,6 +22,11 @@ use std::io::{IsTerminal, Stderr};
 use std::time::Instant;
 use std::{io, str};
 
+// What is said of a name in a list that isn't UTF-8.
+const NO_NAME: &str =
+    "the name isn't UTF-8, so no such folder is read: if the folder's own name is, \
+    save the list as UTF-8, or else rename the folder";
+
 /// Checks as the arguments say. It writes the lines to standard output, and its progress to
 /// standard error.
 pub fn check_folders(rt: &HostRuntime, task: &CheckTask<'_>) -> Result<u8, ProgramFault> {
@@ -92,9 +97,7 @@ fn say_names(rt: &HostRuntime, list: &str, names: &[&[u8]]) {
         if str::from_utf8(name).is_err() {
             let mut text = String::new(rt.alloc());
             if push_escaped_bytes(&mut text, name).is_ok() {
-                let _ = eprintln!(rt;
-                    "{text}: the name isn't UTF-8, so no such folder is read; rename it"
-                );
+                let _ = eprintln!(rt; "{text}: {NO_NAME}");
             }
         }
     }
