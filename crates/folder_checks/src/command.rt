@@ -13,7 +13,7 @@ use crate::tallied_folders::TalliedFolders;
 use crate::tally::Tally;
 use bag_folders::Folders;
 use bag_words::{Names, SpokenFolders, Wanted};
-use code_words::say_text;
+use code_words::{meaning_of_line, say_text};
 use counted_writes::{CountedWrite, CountedWriter, write_output};
 use file_words::{push_file_words, push_source_name, say_no_line};
 use outcomes::{ProgramFault, ReadFault};
@@ -53,7 +53,7 @@ fn check_listed(
             }
             return Ok(status);
         }
-        Err(ReadFault::Memory) => return write_output(&mut output, 1, no_memory(task)),
+        Err(ReadFault::Memory) => return end_without_memory(rt, task, &mut output),
     };
     match names_in(rt.alloc(), bytes.as_slice(), list.end) {
         Ok(names) => {
@@ -75,7 +75,7 @@ fn check_listed(
             }
             answer
         }
-        Err(AllocError) => write_output(&mut output, 1, no_memory(task)),
+        Err(AllocError) => end_without_memory(rt, task, &mut output),
     }
 }
 
@@ -108,7 +108,7 @@ fn check_named(rt: &HostRuntime, task: &CheckTask<'_>) -> Result<u8, ProgramFaul
     let mut output = CountedWriter::new(io::writer(rt));
     match names_of(rt.alloc(), task.paths.as_slice()) {
         Ok(names) => check_names(rt, task, names.as_slice(), Names::Given, &mut output),
-        Err(AllocError) => write_output(&mut output, 1, no_memory(task)),
+        Err(AllocError) => end_without_memory(rt, task, &mut output),
     }
 }
 
@@ -127,6 +127,27 @@ fn unread_list(task: &CheckTask<'_>) -> &'static str {
     } else {
         "open 4\n"
     }
+}
+
+// Writes that memory ran out before any folder was read, and says it if words are asked for.
+fn end_without_memory<W: CountedWrite>(
+    rt: &HostRuntime,
+    task: &CheckTask<'_>,
+    output: &mut W,
+) -> Result<u8, ProgramFault> {
+    let status = write_output(output, 1, no_memory(task))?;
+    if task.words {
+        say_text(rt, memory_words(rt));
+    }
+    Ok(status)
+}
+
+fn memory_words(rt: &HostRuntime) -> Result<String, AllocError> {
+    let mut text = String::new(rt.alloc());
+    if let Some(meaning) = meaning_of_line(rt.alloc(), "memory")? {
+        meaning.push(&mut text)?;
+    }
+    Ok(text)
 }
 
 // The line where memory ran out before any folder was read.
@@ -190,7 +211,7 @@ fn check_given(rt: &HostRuntime, task: &CheckTask<'_>) -> Result<u8, ProgramFaul
             folders.say();
             answer
         }
-        Err(AllocError) => write_output(&mut output, 1, "memory\n"),
+        Err(AllocError) => end_without_memory(rt, task, &mut output),
     }
 }
 

@@ -1,10 +1,11 @@
 //! Why a list or a cell can't be compared with.
 
-use code_words::{LineSpeaker, say_text};
+use code_words::{LineSpeaker, meaning_of_line, say_text};
 use file_words::push_file_words;
 use std::alloc::AllocError;
 
-/// What says the line of a list or cell that can't be used. The lines of folders are said elsewhere.
+/// What says the line of a list or cell that can't be used, and that memory ran out. The lines of
+/// folders are said elsewhere.
 #[derive(Clone, Copy)]
 pub(crate) struct ListSpeaker<'a> {
     rt: &'a HostRuntime,
@@ -32,6 +33,12 @@ impl<'a> ListSpeaker<'a> {
         match words.as_slice() {
             ["open", "4"] | ["damaged", _] | ["ledger", "line", _] => {
                 push_file_words(self.rt, &mut text, self.list, line)?;
+            }
+            // It may have run out for the folders, too, so the list isn't named.
+            ["memory"] => {
+                if let Some(meaning) = meaning_of_line(self.rt.alloc(), line)? {
+                    meaning.push(&mut text)?;
+                }
             }
             _ => {}
         }
