@@ -3,7 +3,7 @@
 //!
 //! ```
 //! let are_named = task.named || task.paths.len() != 1;
-//! SpokenFolders::new(rt, wanted_words(task), are_named, names, folders)
+//! SpokenFolders::new(rt, wanted_words(task), are_named, from, folders)
 //! ```
 #![tactic(auto)]
 
