@@ -106,7 +106,7 @@ impl<'a> StandingSpeaker<'a> {
             write!(
                 text,
                 "site {site}: bags that are known elsewhere, and not to it: {lacks}; if that lasts, \
-                `bagpaxos catch-up --members "
+                and its cell has all that older lists of it have, `bagpaxos catch-up --members "
             )?;
             push_name(text, self.members)?;
             write!(
