@@ -44,12 +44,12 @@ ends before after next bytes divides empty lists says =
     record {
       lines = divides.lines ++ after.begun ∷ [];
       joined =
-        sym (append_assoc before.begun bytes (10 ∷ []))
-        ∙ (ap (λ t. t ++ 10 ∷ []) divides.joined
-        ∙ (append_assoc (flat_map ended divides.lines) after.begun (10 ∷ [])
-        ∙ (sym (one_more ended divides.lines after.begun)
-        ∙ (sym (append-nil (flat_map ended (divides.lines ++ after.begun ∷ [])))
-        ∙ ap (λ t. flat_map ended (divides.lines ++ after.begun ∷ []) ++ t) (sym empty)))));
+          sym (append_assoc before.begun bytes (10 ∷ []))
+          ∙ (ap (λ t. t ++ 10 ∷ []) divides.joined
+          ∙ (append_assoc (flat_map ended divides.lines) after.begun (10 ∷ [])
+          ∙ (sym (one_more ended divides.lines after.begun)
+          ∙ (sym (append-nil (flat_map ended (divides.lines ++ after.begun ∷ [])))
+          ∙ ap (λ t. flat_map ended (divides.lines ++ after.begun ∷ []) ++ t) (sym empty)))));
       within = All-append IsWithinLine divides.lines (after.begun ∷ []) divides.within
           (All-cons IsWithinLine after.begun [] divides.begun (All-nil _));
       begun = subst IsWithinLine (sym empty) (All-nil _);

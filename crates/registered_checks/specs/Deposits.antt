@@ -49,6 +49,6 @@ pub record Divides (before : Outputs) (bytes : List ℕ) (after : Outputs) : Typ
   pub within : All IsWithinLine lines
   pub begun : IsWithinLine after.begun
   pub listed : Appends before.list after.list
-    (flat_map (λ line. listed_by (deposit_line line)) lines)
+      (flat_map (λ line. listed_by (deposit_line line)) lines)
   pub unlisted : Appends before.errors after.errors
-    (flat_map (λ line. unlisted_by line (deposit_line line)) lines)
+      (flat_map (λ line. unlisted_by line (deposit_line line)) lines)

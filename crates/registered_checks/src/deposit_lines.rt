@@ -40,11 +40,17 @@ impl<W: Write, E: Write> DepositLines<W, E> {
     fn take(&mut self, byte: u8) -> Result<()>
         ensures { OnOk result ((before : Outputs) → (bytes : List ℕ)
             → Divides before bytes
-            (record { list = W.contents self.old.list; errors = E.contents self.old.errors;
-            begun = self.old.begun.items })
+            (record {
+              list = W.contents self.old.list;
+              errors = E.contents self.old.errors;
+              begun = self.old.begun.items;
+            })
             → Divides before (bytes ++ byte ∷ [])
-            (record { list = W.contents self.new.list; errors = E.contents self.new.errors;
-            begun = self.new.begun.items })) }
+            (record {
+              list = W.contents self.new.list;
+              errors = E.contents self.new.errors;
+              begun = self.new.begun.items;
+            })) }
     {
         if byte == b'\n' {
             self.end_line()?;
@@ -93,11 +99,17 @@ impl<W: Write, E: Write> Write for DepositLines<W, E> {
         ensures bytes { WriteAppends None None result buf.now }
         ensures all { IfOk result (λ count. count ≡ length buf.now) }
         ensures divides { OnOk result (IsWithinLine self.old.begun.items → Divides
-            (record { list = W.contents self.old.list; errors = E.contents self.old.errors;
-            begun = self.old.begun.items })
+            (record {
+              list = W.contents self.old.list;
+              errors = E.contents self.old.errors;
+              begun = self.old.begun.items;
+            })
             buf.now
-            (record { list = W.contents self.new.list; errors = E.contents self.new.errors;
-            begun = self.new.begun.items })) }
+            (record {
+              list = W.contents self.new.list;
+              errors = E.contents self.new.errors;
+              begun = self.new.begun.items;
+            })) }
     {
         'bytes: for byte in buf {
             self.take(*byte)?;
