@@ -100,7 +100,7 @@ fn say_unread(rt: &HostRuntime, path: &str, error: &io::Error) -> Result<(), All
     push_path(&mut name, path)?;
     if path != "-" {
         if let Some(fault) = path_fault(rt, path, error.kind()) {
-            let _ = eprintln!(rt; "{name} can't be opened: {fault}");
+            let _ = eprintln!(rt; "{name}{fault}");
             return Ok(());
         }
     }
