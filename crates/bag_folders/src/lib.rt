@@ -34,6 +34,7 @@ mod remembering_folders;
 mod walk;
 mod watched_file;
 mod watcher;
+mod weighed;
 mod weight;
 
 pub use bare_folders::BareFolders;

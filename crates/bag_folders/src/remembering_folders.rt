@@ -5,6 +5,7 @@ ghost use Rattle.bag_folders.specs.Disk.{IsRefused, IsKnownOrRefused};
 ghost use Rattle.bag_folders.specs.Folders.{IsWalkFault};
 
 use crate::failure::Failure;
+use crate::folder_listing::FolderListing;
 use crate::folders::Folders;
 use crate::list_sum::ListSum;
 use crate::now::Now;
@@ -12,7 +13,8 @@ use crate::refusals::{Reason, Refusal, Refusals};
 use crate::refused_bag::bag_refused_for;
 use crate::walk::{Reading, list_within, open_bag, read_listed};
 use crate::watcher::Silent;
-use crate::weight::weight_of;
+use crate::weighed::WeighedFolders;
+use crate::weight::short_list;
 use bag_check::BagFault;
 use bag_tree::{Facts, TreeFault};
 use std::alloc::{AllocError, Global};
@@ -31,6 +33,8 @@ pub struct RememberingFolders<R: Files + Clock + AllocGlobal + Clone + Drop> {
     /// The moment 0 of the refusals, if the clock could be read.
     made: Option<Instant>,
     refusals: Refusals,
+    /// Those that were weighed and not read since then.
+    weighed: WeighedFolders,
     /// The list of the files that were read last, if a refusal of theirs is to be remembered.
     last: Option<ListSum>,
     failed_at: Option<String>,
@@ -42,11 +46,13 @@ impl<R: Files + Clock + AllocGlobal + Clone + Drop> RememberingFolders<R> {
     pub fn new(rt: R, most_bytes: u64) -> RememberingFolders<R> {
         let made = Instant::now(&rt).ok();
         let refusals = Refusals::new(rt.alloc());
+        let weighed = WeighedFolders::new(rt.alloc());
         RememberingFolders {
             rt,
             most_bytes,
             made,
             refusals,
+            weighed,
             last: None,
             failed_at: None,
         }
@@ -89,9 +95,11 @@ impl<R: Files + Clock + AllocGlobal + Clone + Drop> Folders for RememberingFolde
         self.failed_at = None;
         self.last = None;
         let now = Now::of(&self.rt, self.made);
+        let listed = self.weighed.take(path);
         match read_or_recall(
             &self.rt,
             path,
+            listed,
             self.most_bytes,
             &self.refusals,
             now,
@@ -111,7 +119,13 @@ impl<R: Files + Clock + AllocGlobal + Clone + Drop> Folders for RememberingFolde
     }
 
     fn weighs(&self, path: &str, most: u64) -> Option<u64> {
-        weight_of(&self.rt, path, most.min(self.most_bytes))
+        let listing = short_list(&self.rt, path)?;
+        let bytes = listing.bytes();
+        if most.min(self.most_bytes) < bytes {
+            return None;
+        }
+        self.weighed.add(path, listing);
+        Some(bytes)
     }
 
     fn failed_at(&self) -> Option<&str> {
@@ -122,11 +136,13 @@ impl<R: Files + Clock + AllocGlobal + Clone + Drop> Folders for RememberingFolde
     }
 }
 
-// The facts of a folder, whose files are read unless a refusal of their list is remembered. If they
-// are read, their list is noted, provided that it can be told from that of later files.
+// The facts of a folder, whose files are read unless a refusal of their list is remembered. They are
+// listed, unless they were listed a moment ago. If they are read, their list is noted, provided that
+// it can be told from that of later files.
 fn read_or_recall<R: Files + Clock + AllocGlobal + Clone + Drop>(
     rt: &R,
     path: &str,
+    listed: Option<FolderListing>,
     most_bytes: u64,
     refusals: &Refusals,
     now: Option<Now>,
@@ -137,7 +153,10 @@ fn read_or_recall<R: Files + Clock + AllocGlobal + Clone + Drop>(
 {
     let alloc = rt.alloc();
     let mut bag = open_bag(rt, path)?;
-    let listing = list_within(alloc, &mut bag, most_bytes)?;
+    let listing = match listed {
+        Some(listing) => listing,
+        None => list_within(alloc, &mut bag, most_bytes)?,
+    };
     if let Some(now) = now {
         let files = ListSum::of(&listing);
         if let Some(facts) = recalled(alloc, refusals.of(files, now.moment))? {
