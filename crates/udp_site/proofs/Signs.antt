@@ -1,11 +1,13 @@
--- What came while no proposal is under way changes no pace: what a site says to itself, where it
--- can't be a vote; and what others say, where no wait has grown, and who says it is noted.
-use Rattle.std.proofs.Common.{◌≡◌, ℕ, ◌==◌, ◌-◌, Bool, true, false, cond, List, refl, ap, sym, ◌∙◌}
+-- What came changes no pace, where it isn't noted that something comes: what a site says to itself,
+-- where it can't be a vote; and what a client asks. Nor does what others say, where no proposal is
+-- under way, no wait has grown, and who says it is noted.
+use Rattle.std.proofs.Common.{◌≡◌, ℕ, ◌==◌, ◌-◌, ◌||◌, Bool, true, false, cond, List, refl, ap, sym}
+use Rattle.std.proofs.Common.{◌∙◌}
 use Rattle.std.proofs.Common.{Option, Some, None}
 use Rattle.fields.proofs.Bytes.{IsBytes}
 use Rattle.dgram.specs.Decoded.{message_of}
 use Rattle.dgram.specs.Encoding.{kind_of, body_from}
-use Rattle.dgram.specs.Numbers.{ACCEPTED}
+use Rattle.dgram.specs.Numbers.{ACCEPTED, DEPOSIT, QUERY, RECOVER}
 use Rattle.dgram.specs.declared.body.Body.{Body}
 use Rattle.dgram.specs.declared.body.Body.TheVariants as bodies
 use Rattle.dgram.specs.declared.message.Message.{Message}
@@ -16,6 +18,7 @@ use Rattle.udp_site.specs.declared.sign.Sign.TheVariants as signs
 use Rattle.udp_site.specs.declared.sign.Signal.{Signal}
 use Rattle.udp_site.specs.Pace.{hears, meets, listens, answered, arrives, takes}
 use Rattle.udp_site.specs.Signs.{sign_by, own_signal_by, signal_by, signal_at, kind_byte, is_vote}
+use Rattle.udp_site.specs.Signs.{is_request}
 
 -- a datagram has the byte of its message's kind
 kind_is : (federation : ℕ) (bytes : List ℕ) (m : Message) → IsBytes bytes
@@ -40,32 +43,30 @@ if_false : (pace : Pace) (now : ℕ) (t : Bool) (a b : Signal) → t ≡ false �
 if_false pace now false a b e same = same
 if_false pace now true a b e same = absurd (cc e)
 
-module _ (pace : Pace) (now own from federation : ℕ) (bytes : List ℕ) (are : IsBytes bytes)
-    (rests : pace.under_way ≡ 0) where
-  -- no answer is awaited
-  stays : (sender : Option ℕ) → arrives pace sender ≡ pace
-  stays sender =
-      ap (λ (n : ℕ). cond (n == 0) pace (record pace { contacts = answered pace.contacts sender }))
-      rests
+-- a kind is one of a client's requests
+abbrev is_request_kind : ℕ → Bool
+is_request_kind kind = kind == DEPOSIT || (kind == RECOVER || kind == QUERY)
 
+module _ (pace : Pace) (now own from federation : ℕ) (bytes : List ℕ) (are : IsBytes bytes)
+    (noted : arrives pace None ≡ pace) where
   -- no body but that of a vote
   own_by_body : (b : Body) → (kind_of b == ACCEPTED) ≡ false → takes pace now (own_signal_by b) ≡ pace
-  own_by_body (bodies.Prepare ballot) isnt = stays None
-  own_by_body (bodies.Promise from ballot prior) isnt = stays None
-  own_by_body (bodies.Accept vote) isnt = stays None
+  own_by_body (bodies.Prepare ballot) isnt = noted
+  own_by_body (bodies.Promise from ballot prior) isnt = noted
+  own_by_body (bodies.Accept vote) isnt = noted
   own_by_body (bodies.Accepted from vote) isnt = absurd (cc isnt)
-  own_by_body (bodies.Refused from asked standing) isnt = stays None
-  own_by_body (bodies.Ask from) isnt = stays None
-  own_by_body (bodies.Known from bag) isnt = stays None
-  own_by_body (bodies.Deposit path) isnt = stays None
-  own_by_body bodies.Query isnt = stays None
-  own_by_body bodies.Recover isnt = stays None
-  own_by_body (bodies.DepositReply from answer) isnt = stays None
-  own_by_body (bodies.QueryReply from answer) isnt = stays None
+  own_by_body (bodies.Refused from asked standing) isnt = noted
+  own_by_body (bodies.Ask from) isnt = noted
+  own_by_body (bodies.Known from bag) isnt = noted
+  own_by_body (bodies.Deposit path) isnt = noted
+  own_by_body bodies.Query isnt = noted
+  own_by_body bodies.Recover isnt = noted
+  own_by_body (bodies.DepositReply from answer) isnt = noted
+  own_by_body (bodies.QueryReply from answer) isnt = noted
 
   own_in_message : (own == from) ≡ true → is_vote bytes ≡ false → (o : Option Message)
       → message_of federation bytes ≡ o → takes pace now (signal_at own from o) ≡ pace
-  own_in_message is_own isnt None e = stays None
+  own_in_message is_own isnt None e = noted
   own_in_message is_own isnt (Some m) e =
       if_true pace now (own == from) (own_signal_by m.body) (signal_by m.body) is_own
       (own_by_body m.body (isnt_kind ACCEPTED federation bytes m are e isnt))
@@ -74,6 +75,41 @@ module _ (pace : Pace) (now own from federation : ℕ) (bytes : List ℕ) (are :
       → takes pace now (signal_at own from (message_of federation bytes)) ≡ pace
   own_changes_nothing is_own isnt =
       own_in_message is_own isnt (message_of federation bytes) refl
+
+  -- no body of a client's request
+  asked_by_body : (b : Body) → is_request_kind (kind_of b) ≡ true → takes pace now (signal_by b) ≡ pace
+  asked_by_body (bodies.Prepare ballot) is = absurd (cc is)
+  asked_by_body (bodies.Promise from ballot prior) is = absurd (cc is)
+  asked_by_body (bodies.Accept vote) is = absurd (cc is)
+  asked_by_body (bodies.Accepted from vote) is = absurd (cc is)
+  asked_by_body (bodies.Refused from asked standing) is = absurd (cc is)
+  asked_by_body (bodies.Ask from) is = absurd (cc is)
+  asked_by_body (bodies.Known from bag) is = absurd (cc is)
+  asked_by_body (bodies.Deposit path) is = noted
+  asked_by_body bodies.Query is = noted
+  asked_by_body bodies.Recover is = noted
+  asked_by_body (bodies.DepositReply from answer) is = absurd (cc is)
+  asked_by_body (bodies.QueryReply from answer) is = absurd (cc is)
+
+  asked_in_message : (own == from) ≡ false → is_request bytes ≡ true → (o : Option Message)
+      → message_of federation bytes ≡ o → takes pace now (signal_at own from o) ≡ pace
+  asked_in_message is_own is None e = noted
+  asked_in_message is_own is (Some m) e =
+      if_false pace now (own == from) (own_signal_by m.body) (signal_by m.body) is_own
+      (asked_by_body m.body (ap is_request_kind (sym (kind_is federation bytes m are e)) ∙ is))
+
+  pub asked_changes_nothing : (own == from) ≡ false → is_request bytes ≡ true
+      → takes pace now (signal_at own from (message_of federation bytes)) ≡ pace
+  asked_changes_nothing is_own is =
+      asked_in_message is_own is (message_of federation bytes) refl
+
+module _ (pace : Pace) (now own from federation : ℕ) (bytes : List ℕ)
+    (rests : pace.under_way ≡ 0) where
+  -- no answer is awaited
+  stays : (sender : Option ℕ) → arrives pace sender ≡ pace
+  stays sender =
+      ap (λ (n : ℕ). cond (n == 0) pace (record pace { contacts = answered pace.contacts sender }))
+      rests
 
   module _ (first : pace.wait ≡ pace.waits.first) (early : pace.answer_wait ≡ pace.waits.first)
       (noted : (site : ℕ) → meets pace.contacts now site ≡ pace.contacts) where

@@ -1,8 +1,8 @@
 -- What a datagram is a sign of.
-use Rattle.std.specs.Prelude.{ℕ, ◌+◌, ◌==◌, ◌&&◌, if◌then◌else◌, Bool, List, get_or}
+use Rattle.std.specs.Prelude.{ℕ, ◌+◌, ◌==◌, ◌&&◌, ◌||◌, if◌then◌else◌, Bool, List, get_or}
 use Rattle.std.specs.Prelude.{Option, Some, None}
 use Rattle.dgram.specs.Encoding.{body_from}
-use Rattle.dgram.specs.Numbers.{PREPARE, ACCEPT, ACCEPTED, DEPOSIT, RECOVER, DEPOSIT_REPLY}
+use Rattle.dgram.specs.Numbers.{PREPARE, ACCEPT, ACCEPTED, DEPOSIT, QUERY, RECOVER, DEPOSIT_REPLY}
 use Rattle.dgram.specs.Numbers.{REGISTERED, QUERY_REPLY, IS_PENDING}
 use Rattle.dgram.specs.declared.body.Body.{Body}
 use Rattle.dgram.specs.declared.body.Body.TheVariants as bodies
@@ -67,6 +67,10 @@ is_deposit bytes = kind_byte bytes == DEPOSIT
 
 abbrev pub is_recover : List ℕ → Bool
 is_recover bytes = kind_byte bytes == RECOVER
+
+-- it is one of the three requests that a client has
+abbrev pub is_request : List ℕ → Bool
+is_request bytes = is_deposit bytes || (is_recover bytes || kind_byte bytes == QUERY)
 
 -- the place of the byte that says how long the object's name is; before it is the sender's
 abbrev pub LENGTH_PLACE : ℕ

@@ -13,7 +13,7 @@ failures_of port = port.failures
 
 -- its own address
 abbrev pub own_of : {R : Type 0} → UdpPort R → ℕ
-own_of port = port.own
+own_of port = port.own.address
 
 -- how long it waits
 abbrev pub pace_of : {R : Type 0} → UdpPort R → Pace
@@ -30,6 +30,6 @@ IsAsBefore old new = (pace_of new ≡ pace_of old) × (recoveries_of new ≡ rec
 -- a receive changes its pace as the definitions say, and hands no Recover on too early
 abbrev pub IsPaced : {R : Type 0} → (old new : UdpPort R) → Result Turn PortFault → Type 0
 IsPaced old new (Ok turn) =
-    TurnIsPaced old.federation old.own (pace_of old) (pace_of new) (recoveries_of old)
+    TurnIsPaced old.federation (own_of old) (pace_of old) (pace_of new) (recoveries_of old)
     (recoveries_of new) turn
 IsPaced old new (Err fault) = IsAsBefore old new

@@ -11,3 +11,4 @@ pub mod Paced
 pub mod HeldPosts
 pub mod Batched
 pub mod OneBatch
+pub mod OwnDatagrams

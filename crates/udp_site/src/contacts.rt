@@ -1,6 +1,6 @@
 //! Which sites a port has heard lately.
 
-ghost use Rattle.std.specs.Prelude.{◌≡◌};
+ghost use Rattle.std.specs.Prelude.{◌≡◌, true, None};
 ghost use Rattle.udp_site.specs.Contacts.{nobody_heard, span_of, age, alone, heard_now};
 ghost use Rattle.udp_site.specs.Contacts.{heard_lately, is_connected, is_enough, notes};
 ghost use Rattle.udp_site.specs.Contacts.{awaits, heard_since, notes_answer, is_late};
@@ -70,6 +70,14 @@ impl Contacts {
         ensures { self.new ≡ awaits self.old }
     {
         self.since = None;
+    }
+
+    /// Whether something came since the last proposal. Then it changes nothing that something comes
+    /// which no site says.
+    pub(crate) fn has_answers(&self) -> bool
+        ensures { result ≡ true → notes_answer self.now None ≡ self.now }
+    {
+        self.since.is_some()
     }
 
     /// Something comes, which a site may have said.

@@ -21,6 +21,7 @@ mod line_marks;
 mod memory_port;
 mod messages;
 mod origins;
+mod own_datagrams;
 mod pace;
 mod paced_socket;
 mod port;

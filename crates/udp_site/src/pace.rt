@@ -1,5 +1,5 @@
 ghost use Rattle.std.specs.Prelude.{◌≡◌, ◌≤◌, ◌+◌, ◌*◌, min};
-ghost use Rattle.std.specs.Prelude.{ℕ, false, Some};
+ghost use Rattle.std.specs.Prelude.{ℕ, false, Some, None};
 ghost use Rattle.dgram.specs.Decoded.{message_of};
 ghost use Rattle.udp_site.specs.declared.sign.Sign.{Sign};
 ghost use Rattle.udp_site.specs.Pace.{begins, longer, idles, hears, meets, listens, arrives, takes};
@@ -10,7 +10,9 @@ ghost use Rattle.udp_site.specs.Pace.{wait_at, between, pause, pause_left, at_mo
 ghost use Rattle.udp_site.specs.Signs.{signal_at};
 
 use crate::contacts::Contacts;
-use crate::sign::{Sign, Signal, is_accept, is_pending, is_prepare, is_registered, is_vote};
+use crate::sign::{
+    Sign, Signal, is_accept, is_pending, is_prepare, is_registered, is_request, is_vote,
+};
 use crate::waits::Waits;
 use addresses::Address;
 use fed_types::SiteNo;
@@ -141,24 +143,44 @@ impl Pace {
         wait.saturating_mul(2).min(most)
     }
 
-    /// Whether what came from this port may change anything. While a proposal is under way all may.
-    /// Of what a site says to itself a vote may; what others say may while a wait has grown, or too
-    /// few sites were heard.
+    /// Whether what came from this port may change anything. All may if it is the first that comes
+    /// after a proposal. Of what a site says to itself a vote may, and what a client asks may not.
+    /// What others say may while a proposal is under way, a wait has grown, or too few sites were
+    /// heard.
     pub(crate) fn heeds(&self, now: u64, own: Address, from: Address, bytes: &[u8]) -> bool
         ensures { result ≡ false → (federation : ℕ)
             → takes self.now now (signal_at own from (message_of federation bytes.now))
             ≡ self.now }
     {
-        if self.under_way != 0 {
+        if self.notes_arrivals() {
             return true;
         }
         if own == from {
             return is_vote(bytes);
         }
+        if is_request(bytes) {
+            return false;
+        }
+        if self.under_way != 0 {
+            return true;
+        }
         if self.wait != self.waits.first || self.answer_wait != self.waits.first {
             return true;
         }
         self.wants_contacts(now)
+    }
+
+    // Whether it is noted that something comes, whoever says it.
+    fn notes_arrivals(&self) -> bool
+        ensures { result ≡ false → arrives self.now None ≡ self.now }
+    {
+        if self.under_way == 0 {
+            return false;
+        }
+        match &self.contacts {
+            Some(contacts) => !contacts.has_answers(),
+            None => false,
+        }
     }
 
     // Whether a site that is heard now is noted.

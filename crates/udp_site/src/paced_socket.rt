@@ -11,6 +11,7 @@ ghost use Rattle.udp_site.specs.inner.Paced.{EndsWait, WantsCounts};
 
 use crate::contacts::Contacts;
 use crate::origins::Origins;
+use crate::own_datagrams::OwnDatagrams;
 use crate::pace::Pace;
 use crate::receive_buffer::{ask_for_buffer, buffer_of};
 use crate::recoveries::Recoveries;
@@ -134,8 +135,14 @@ impl<R: Clock + Drop> PacedSocket<R> {
     /// turn is idle. Where the pace says so at once, what has come stays in the socket. A datagram
     /// from another address is passed over, and so is a client's request to recover that comes too
     /// early. So is a question how the site stands, once it is answered.
-    pub(crate) fn wait_for(&self, alloc: Global, buffer: &mut [u8]) -> io::Result<End>
-        ensures { IfOk result (EndsWait self.now.pace self.now.recoveries buffer.new) }
+    pub(crate) fn wait_for(
+        &self,
+        alloc: Global,
+        own: &mut OwnDatagrams,
+        buffer: &mut [u8],
+    ) -> io::Result<End>
+        ensures ends { IfOk result (EndsWait self.now.pace self.now.recoveries buffer.new) }
+        ensures address { own.new.address ≡ own.old.address }
     {
         let began = self.moment()?;
         for _ in 0..u64::MAX {
@@ -144,7 +151,7 @@ impl<R: Clock + Drop> PacedSocket<R> {
             if left == 0 {
                 return Ok(End::Idle { began, now });
             }
-            if let Some((from, count)) = self.taken_within(left, buffer)? {
+            if let Some((from, count)) = self.taken_within(left, own, buffer)? {
                 if !self.passes_over(alloc, now, from, &buffer[..count])? {
                     return Ok(End::Taken(Arrival { from, count, now }));
                 }
@@ -155,15 +162,21 @@ impl<R: Clock + Drop> PacedSocket<R> {
 
     /// The same without waiting: the turn is idle where that is due now, or a datagram is taken
     /// that is there. One that is passed over is as none.
-    pub(crate) fn look_for(&self, alloc: Global, buffer: &mut [u8]) -> io::Result<Option<End>>
-        ensures { IfOk result
+    pub(crate) fn look_for(
+        &self,
+        alloc: Global,
+        own: &mut OwnDatagrams,
+        buffer: &mut [u8],
+    ) -> io::Result<Option<End>>
+        ensures ends { IfOk result
             (λ got. IfSome got (EndsWait self.now.pace self.now.recoveries buffer.new)) }
+        ensures address { own.new.address ≡ own.old.address }
     {
         let now = self.moment()?;
         if self.pace.left(now, now) == 0 {
             return Ok(Some(End::Idle { began: now, now }));
         }
-        let Some((from, count)) = self.taken(buffer)? else {
+        let Some((from, count)) = self.taken(own, buffer)? else {
             return Ok(None);
         };
         if self.passes_over(alloc, now, from, &buffer[..count])? {
@@ -329,10 +342,16 @@ impl<R: Clock + Drop> PacedSocket<R> {
 
     // Takes a datagram that is there. Where none is, it waits for so many microseconds at most until
     // one may be. One from where none is taken is passed over.
-    fn taken_within(&self, micros: u64, buffer: &mut [u8]) -> io::Result<Option<(Address, usize)>>
-        ensures { IfOk result (λ got. IfSome got (λ g. g.1 ≤ length buffer.new)) }
+    fn taken_within(
+        &self,
+        micros: u64,
+        own: &mut OwnDatagrams,
+        buffer: &mut [u8],
+    ) -> io::Result<Option<(Address, usize)>>
+        ensures within { IfOk result (λ got. IfSome got (λ g. g.1 ≤ length buffer.new)) }
+        ensures address { own.new.address ≡ own.old.address }
     {
-        match self.taken(buffer) {
+        match self.taken(own, buffer) {
             Ok(taken) => Ok(taken),
             Err(error) => match error.kind() {
                 ErrorKind::WouldBlock => {
@@ -346,9 +365,24 @@ impl<R: Clock + Drop> PacedSocket<R> {
         }
     }
 
-    // Takes a datagram, if it comes from where one is taken: with keys what is before its tag. There
-    // are no bytes of it where the tag isn't right, nor where it doesn't count.
-    fn taken(&self, buffer: &mut [u8]) -> io::Result<Option<(Address, usize)>>
+    // Takes a datagram that is there: what the port said to itself before what comes from others.
+    fn taken(
+        &self,
+        own: &mut OwnDatagrams,
+        buffer: &mut [u8],
+    ) -> io::Result<Option<(Address, usize)>>
+        ensures within { IfOk result (λ got. IfSome got (λ g. g.1 ≤ length buffer.new)) }
+        ensures address { own.new.address ≡ own.old.address }
+    {
+        match own.take(buffer) {
+            Some(count) => Ok(Some((own.address, count))),
+            None => self.received(buffer),
+        }
+    }
+
+    // Receives a datagram, if it comes from where one is taken: with keys what is before its tag.
+    // There are no bytes of it where the tag isn't right, nor where it doesn't count.
+    fn received(&self, buffer: &mut [u8]) -> io::Result<Option<(Address, usize)>>
         ensures { IfOk result (λ got. IfSome got (λ g. g.1 ≤ length buffer.new)) }
     {
         let (count, from) = self.socket.recv_from(buffer)?;

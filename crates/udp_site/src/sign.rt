@@ -4,7 +4,8 @@ ghost use Rattle.std.specs.Prelude.{◌≡◌, IfOk};
 ghost use Rattle.dgram.specs.Decoded.{message_of};
 ghost use Rattle.udp_site.specs.Signs.{sign_by, own_sign_by, signal_by, own_signal_by, signal_at};
 ghost use Rattle.udp_site.specs.Signs.{kind_byte, body_byte, is_prepare, is_accept, is_vote};
-ghost use Rattle.udp_site.specs.Signs.{is_deposit, is_recover, is_registered, is_pending};
+ghost use Rattle.udp_site.specs.Signs.{is_deposit, is_recover, is_request, is_registered};
+ghost use Rattle.udp_site.specs.Signs.{is_pending};
 
 use addresses::Address;
 use dgram::{Body, DgramFault, Message, decode};
@@ -28,6 +29,9 @@ const ACCEPTED: u8 = 4;
 
 /// The kind of a client's request to deposit a folder.
 const DEPOSIT: u8 = 16;
+
+/// The kind of a client's question which bag is known.
+const QUERY: u8 = 17;
 
 /// The kind of a client's request to recover.
 const RECOVER: u8 = 18;
@@ -188,6 +192,13 @@ pub(crate) fn is_recover(bytes: &[u8]) -> bool
     ensures { result ≡ is_recover bytes.now }
 {
     kind_byte(bytes) == RECOVER
+}
+
+/// Whether a datagram that came may be a client's request, by its kind.
+pub(crate) fn is_request(bytes: &[u8]) -> bool
+    ensures { result ≡ is_request bytes.now }
+{
+    is_deposit(bytes) || is_recover(bytes) || kind_byte(bytes) == QUERY
 }
 
 /// Whether a datagram that is handed out answers a deposit: the bag is registered.

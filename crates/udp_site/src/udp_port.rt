@@ -1,5 +1,6 @@
 use crate::contacts::Contacts;
 use crate::origins::Origins;
+use crate::own_datagrams::OwnDatagrams;
 use crate::paced_socket::{Arrival, End, PacedSocket};
 use crate::port::Port;
 use crate::port_fault::PortFault;
@@ -25,7 +26,7 @@ pub struct UdpPort<R: Clock + Drop = HostRuntime> {
     alloc: Global,
     federation: u64,
     socket: PacedSocket<R>,
-    own: Address,
+    own: OwnDatagrams,
     failures: u64,
 }
 
@@ -105,7 +106,7 @@ impl<R: Clock + Drop> UdpPort<R> {
                 alloc: net.alloc(),
                 federation,
                 socket,
-                own,
+                own: OwnDatagrams::new(net.alloc(), own),
                 failures: 0,
             }),
             Err(error) => Err(fault_of(&error)),
@@ -131,7 +132,7 @@ impl<R: Clock + Drop> UdpPort<R> {
 
     /// Its own address.
     pub fn address(&self) -> Address {
-        self.own
+        self.own.address
     }
 
     /// How many bytes of datagrams the system keeps for it until they are taken, if it says so. A
@@ -173,7 +174,7 @@ impl<R: Clock + Drop> Port for UdpPort<R> {
             (failures_of self.new) result }
         ensures paced { IsPaced self.old self.new result }
     {
-        match turn_at(self.alloc, self.federation, self.own, &mut self.socket) {
+        match turn_at(self.alloc, self.federation, &mut self.own, &mut self.socket) {
             Ok(turn) => Ok(turn),
             Err(error) => Err(self.fail(&error)),
         }
@@ -186,7 +187,7 @@ impl<R: Clock + Drop> Port for UdpPort<R> {
         ensures paced { IfSome result (λ turn. IsPaced self.old self.new (Ok turn)) }
         ensures same { IfNone result (IsAsBefore self.old self.new) }
     {
-        turn_now(self.alloc, self.federation, self.own, &mut self.socket).unwrap_or(None)
+        turn_now(self.alloc, self.federation, &mut self.own, &mut self.socket).unwrap_or(None)
     }
 
     fn send(&mut self, to: Address, bytes: &[u8]) -> Result<(), PortFault>
@@ -197,7 +198,10 @@ impl<R: Clock + Drop> Port for UdpPort<R> {
             ≡ hands (pace_of self.old) (own_of self.old) to bytes.now }
         ensures recoveries { recoveries_of self.new ≡ recoveries_of self.old }
     {
-        self.socket.hands(self.own, to, bytes);
+        self.socket.hands(self.own.address, to, bytes);
+        if self.own.keep(self.alloc, to, bytes) {
+            return Ok(());
+        }
         match self.socket.send_to(self.alloc, to, bytes) {
             Ok(()) => Ok(()),
             Err(error) => Err(self.fail(&error)),
@@ -254,29 +258,32 @@ fn open<R: Net + Clock + Drop + Copy>(
 fn turn_at<R: Clock + Drop>(
     alloc: Global,
     federation: u64,
-    own: Address,
+    own: &mut OwnDatagrams,
     socket: &mut PacedSocket<R>,
 ) -> io::Result<Turn>
-    ensures paced { IfOk result (TurnIsPaced federation own socket.old.pace socket.new.pace
+    ensures paced { IfOk result (TurnIsPaced federation own.old.address socket.old.pace socket.new.pace
         socket.old.recoveries socket.new.recoveries) }
+    ensures address { own.new.address ≡ own.old.address }
     ensures same { OnErr result (socket.new.pace ≡ socket.old.pace) }
     ensures recoveries { OnErr result (socket.new.recoveries ≡ socket.old.recoveries) }
 {
     // There is room before a datagram is taken, so that none is lost for want of it.
     let mut bytes = vec![in alloc; 0; MOST_BYTES]?;
-    let end = socket.wait_for(alloc, &mut bytes)?;
-    turn_of(alloc, federation, own, socket, end, bytes)
+    let address = own.address;
+    let end = socket.wait_for(alloc, own, &mut bytes)?;
+    turn_of(alloc, federation, address, socket, end, bytes)
 }
 
 /// The same without waiting, if a turn is there.
 fn turn_now<R: Clock + Drop>(
     alloc: Global,
     federation: u64,
-    own: Address,
+    own: &mut OwnDatagrams,
     socket: &mut PacedSocket<R>,
 ) -> io::Result<Option<Turn>>
-    ensures paced { IfOk result (λ got. IfSome got (λ turn. TurnIsPaced federation own
+    ensures paced { IfOk result (λ got. IfSome got (λ turn. TurnIsPaced federation own.old.address
         socket.old.pace socket.new.pace socket.old.recoveries socket.new.recoveries turn)) }
+    ensures address { own.new.address ≡ own.old.address }
     ensures same { IfOk result (λ got. IfNone got (socket.new.pace ≡ socket.old.pace)) }
     ensures recoveries { IfOk result
         (λ got. IfNone got (socket.new.recoveries ≡ socket.old.recoveries)) }
@@ -285,10 +292,11 @@ fn turn_now<R: Clock + Drop>(
 {
     // There is room before a datagram is taken, so that none is lost for want of it.
     let mut bytes = vec![in alloc; 0; MOST_BYTES]?;
-    let Some(end) = socket.look_for(alloc, &mut bytes)? else {
+    let address = own.address;
+    let Some(end) = socket.look_for(alloc, own, &mut bytes)? else {
         return Ok(None);
     };
-    let turn = turn_of(alloc, federation, own, socket, end, bytes)?;
+    let turn = turn_of(alloc, federation, address, socket, end, bytes)?;
     Ok(Some(turn))
 }
 

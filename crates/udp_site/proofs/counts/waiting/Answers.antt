@@ -1,5 +1,4 @@
-use Rattle.std.proofs.Common.{◌≡◌, ◌≤◌, ℕ, List, length, refl, sym, ap, subst, ◌∙◌, arith}
-use Rattle.records.specs.declared.record.Record.{Record}
+use Rattle.std.proofs.Common.{refl, sym, ◌∙◌, arith}
 use Rattle.udp_site.specs.Status.{waiting_before}
 use Rattle.udp_site.proofs.Counted.{one_more, none_more, all_places}
 use Rattle.udp_site.proofs.counts.waiting.Goals.{then-waits, else-waits}

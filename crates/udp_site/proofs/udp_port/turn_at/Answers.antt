@@ -11,5 +11,5 @@ turn_of-requires g c =
       ends =
           subst (λ (buffer : List ℕ). EndsWait was.pace was.recoveries buffer c.in_ok-end.end)
           (sym (all_read bytes.len c.wait_for.new.buffer bytes.items
-          (c.wait_for.auto.buffer ∙ c.deref_mut.ensures.len))) c.in_ok-end.ensures;
+          (c.wait_for.auto.buffer ∙ c.deref_mut.ensures.len))) c.in_ok-end.ensures.ends;
     }
