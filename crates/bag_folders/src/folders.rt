@@ -31,8 +31,8 @@ pub trait Folders {
         ensures place { fails_at self.new ≡ fails_at self.old };
 
     /// How many bytes the files of the folder of this path have together, if they are known without
-    /// being read, few, and have no more than this. The folder is read soon after: its list may be
-    /// kept for that.
+    /// being read, few, and have no more than this. Usually the folder is read a moment later: its
+    /// list may be kept for that.
     fn weighs(&self, _path: &str, _most: u64) -> Option<u64>
         ensures { IfSome result (λ bytes. bytes ≤ _most) }
     {

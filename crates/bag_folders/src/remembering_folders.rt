@@ -33,7 +33,7 @@ pub struct RememberingFolders<R: Files + Clock + AllocGlobal + Clone + Drop> {
     /// The moment 0 of the refusals, if the clock could be read.
     made: Option<Instant>,
     refusals: Refusals,
-    /// Those that were weighed and not read since then.
+    /// Those that were weighed a moment ago.
     weighed: WeighedFolders,
     /// The list of the files that were read last, if a refusal of theirs is to be remembered.
     last: Option<ListSum>,
@@ -55,6 +55,27 @@ impl<R: Files + Clock + AllocGlobal + Clone + Drop> RememberingFolders<R> {
             weighed,
             last: None,
             failed_at: None,
+        }
+    }
+
+    // The facts of a folder by the list for which it was weighed a moment ago. If it can't be read by
+    // that, it may have been exchanged since then: it is to be listed again.
+    fn read_weighed(&mut self, path: &str, now: Option<Now>) -> Option<Facts>
+        ensures { IfSome result IsKnownOrRefused }
+    {
+        let listing = self.weighed.take(path, now?.moment)?;
+        let read = read_or_recall(
+            &self.rt,
+            path,
+            Some(listing),
+            self.most_bytes,
+            &self.refusals,
+            now,
+            &mut self.last,
+        );
+        match read {
+            Ok(facts) => Some(facts),
+            Err(_) => None,
         }
     }
 
@@ -95,11 +116,14 @@ impl<R: Files + Clock + AllocGlobal + Clone + Drop> Folders for RememberingFolde
         self.failed_at = None;
         self.last = None;
         let now = Now::of(&self.rt, self.made);
-        let listed = self.weighed.take(path);
+        if let Some(facts) = self.read_weighed(path, now) {
+            return Ok(facts);
+        }
+        self.last = None;
         match read_or_recall(
             &self.rt,
             path,
-            listed,
+            None,
             self.most_bytes,
             &self.refusals,
             now,
@@ -119,12 +143,15 @@ impl<R: Files + Clock + AllocGlobal + Clone + Drop> Folders for RememberingFolde
     }
 
     fn weighs(&self, path: &str, most: u64) -> Option<u64> {
+        let now = Now::of(&self.rt, self.made);
         let listing = short_list(&self.rt, path)?;
         let bytes = listing.bytes();
         if most.min(self.most_bytes) < bytes {
             return None;
         }
-        self.weighed.add(path, listing);
+        if let Some(now) = now {
+            self.weighed.add(path, listing, now.moment);
+        }
         Some(bytes)
     }
 
@@ -137,8 +164,8 @@ impl<R: Files + Clock + AllocGlobal + Clone + Drop> Folders for RememberingFolde
 }
 
 // The facts of a folder, whose files are read unless a refusal of their list is remembered. They are
-// listed, unless they were listed a moment ago. If they are read, their list is noted, provided that
-// it can be told from that of later files.
+// listed, unless a list is given. If they are read, the list is noted, provided that it can be told
+// from that of later files.
 fn read_or_recall<R: Files + Clock + AllocGlobal + Clone + Drop>(
     rt: &R,
     path: &str,

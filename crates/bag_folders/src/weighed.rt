@@ -6,22 +6,26 @@ use std::cell::RefCell;
 use std::collections::VecDeque;
 
 /// How many folders are kept at most: as many as are weighed for one batch of a site.
-const MOST_WEIGHED: usize = 64;
+const MOST_KEPT: usize = 64;
+
+/// How many microseconds a list is kept. A batch of small bags is read in less.
+const KEPT_FOR: u64 = 100_000;
 
 /// A folder that was weighed.
 #[derive(Drop)]
 struct WeighedFolder {
     path: String,
     listing: FolderListing,
+    /// When it was listed, in microseconds.
+    moment: u64,
 }
 
-/// Folders that were weighed and not read since then, in order. Each was listed for that, and is
-/// read a moment later by the same list. A file that was exchanged meanwhile can't be read, as one
-/// that is exchanged after any list.
+/// Folders that were weighed within the last tenth of a second, and not read since then. Each was
+/// listed for that, and can be read by the same list.
 #[derive(Drop)]
 pub(crate) struct WeighedFolders {
     alloc: Global,
-    waiting: RefCell<VecDeque<WeighedFolder>>,
+    kept: RefCell<VecDeque<WeighedFolder>>,
 }
 
 impl WeighedFolders {
@@ -29,40 +33,47 @@ impl WeighedFolders {
     pub(crate) fn new(alloc: Global) -> WeighedFolders {
         WeighedFolders {
             alloc,
-            waiting: RefCell::new(VecDeque::new(alloc)),
+            kept: RefCell::new(VecDeque::new(alloc)),
         }
     }
 
-    /// The folder of this path was listed. If there is no memory for that, it is listed again.
-    pub(crate) fn add(&self, path: &str, listing: FolderListing) {
-        if let Ok(mut waiting) = self.waiting.try_borrow_mut() {
-            if waiting.len() >= MOST_WEIGHED {
-                waiting.clear();
+    /// The folder of this path was listed at this moment. If there is no memory to keep the list, the
+    /// folder is listed again.
+    pub(crate) fn add(&self, path: &str, listing: FolderListing, moment: u64) {
+        if let Ok(mut kept) = self.kept.try_borrow_mut() {
+            if kept.len() >= MOST_KEPT {
+                kept.pop_front();
             }
-            let _ = add_to(&mut waiting, self.alloc, path, listing);
+            let _ = add_to(&mut kept, self.alloc, path, listing, moment);
         }
     }
 
-    /// The list of the folder of this path, if it was weighed and not read since then. Those that
-    /// were weighed before it aren't read any more.
-    pub(crate) fn take(&self, path: &str) -> Option<FolderListing> {
-        let mut waiting = self.waiting.try_borrow_mut().ok()?;
-        let place = waiting.iter().position(|it| it.path.as_str() == path)?;
-        for _ in 0..place {
-            waiting.pop_front();
+    /// The list of the folder of this path, if it was listed a moment before this one.
+    pub(crate) fn take(&self, path: &str, moment: u64) -> Option<FolderListing> {
+        let mut kept = self.kept.try_borrow_mut().ok()?;
+        let place = kept.iter().position(|it| it.path.as_str() == path)?;
+        let found = kept.remove(place)?;
+        if moment.saturating_sub(found.moment) < KEPT_FOR {
+            Some(found.listing)
+        } else {
+            None
         }
-        Some(waiting.pop_front()?.listing)
     }
 }
 
 // Adds a folder after the others.
 fn add_to(
-    waiting: &mut VecDeque<WeighedFolder>,
+    kept: &mut VecDeque<WeighedFolder>,
     alloc: Global,
     path: &str,
     listing: FolderListing,
+    moment: u64,
 ) -> Result<(), AllocError> {
     let path = String::from_str(alloc, path)?;
-    waiting.push_back(WeighedFolder { path, listing })?;
+    kept.push_back(WeighedFolder {
+        path,
+        listing,
+        moment,
+    })?;
     Ok(())
 }
