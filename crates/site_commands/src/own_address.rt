@@ -28,7 +28,7 @@ pub(crate) fn own_address(
 }
 
 /// The addresses of all sites, that of site 1 first. The site's own is the one of its socket: what
-/// it sends itself goes there, and counts from there.
+/// it says to itself counts as coming from there.
 pub(crate) fn addresses_with(
     alloc: Global,
     sites: &MemberSites,

@@ -83,7 +83,7 @@ pub asked_after_five : pause_left five 0 ≡ 1600000
 unfolding with_voter sites_to is_in
 asked_after_five = refl
 
--- Its own disk is slower still: not even what it has sent to itself comes between two proposals.
+-- Its own disk is slower still: not even what it has said to itself comes between two proposals.
 abbrev busy : Pace
 busy = next (next (next (next (next of_three))))
 
@@ -91,7 +91,7 @@ pub nothing_comes : busy.answer_wait ≡ 1600
 unfolding with_voter sites_to is_in
 nothing_comes = refl
 
--- It is cut off, and what it sends to itself is all that comes: answers aren't late. As long as a
+-- It is cut off, and what it says to itself is all that comes: answers aren't late. As long as a
 -- quorum counts as heard it waits for half a second, and a question brings a proposal a second.
 abbrev cut_off : Pace → Pace
 cut_off pace = takes (next pace) 9000000 own

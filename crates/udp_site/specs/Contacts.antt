@@ -86,7 +86,7 @@ notes_answer contacts None = record contacts { since = Some (heard_since contact
 notes_answer contacts (Some site) =
     record contacts { since = Some (with_voter (heard_since contacts) site) }
 
--- A quorum was heard since the last proposal; or nothing has come, not even what the site sent to
+-- A quorum was heard since the last proposal; or nothing has come, not even what the site said to
 -- itself, since it was busy. Where it is cut off neither is so.
 abbrev pub is_late : Contacts → Bool
 is_late contacts = elim contacts.since [

@@ -183,7 +183,7 @@ awaits_turns pace deposits = record pace {
 abbrev pub is_asked : Pace → Pace
 is_asked pace = record pace { asked = pace.waits.prompt }
 
--- A datagram is handed out. With the Prepare that it sends to itself the site proposes; with an
+-- A datagram is handed out. With the Prepare that it says to itself the site proposes; with an
 -- Accept its proposal has got the promises of a quorum, and something moves; with `registered` it
 -- answers a deposit, and with `pending` a question.
 abbrev pub hands : Pace → (own to : ℕ) → List ℕ → Pace

@@ -13,7 +13,7 @@ use Rattle.udp_site.specs.declared.sign.Signal.{Signal}
 
 -- A proposal got its promises; a vote, or a known bag; or nothing moves. What a client says moves
 -- nothing, since the site may refuse it: see the replies below, which say what it did. That a site
--- recovers for a client shows in the Prepare that it sends to itself.
+-- recovers for a client shows in the Prepare that it says to itself.
 -- Promises are none: two of five sites that are up promise each other at each proposal, and would
 -- keep their first wait, and write records, as long as there is no majority. A vote of another site
 -- is taken for the end of a proposal, though it may be the first of several that are needed: the

@@ -72,8 +72,7 @@ impl Contacts {
         self.since = None;
     }
 
-    /// Whether something came since the last proposal. Then it changes nothing that something comes
-    /// which no site says.
+    /// Whether something came since the last proposal. Then what comes from no site changes nothing.
     pub(crate) fn has_answers(&self) -> bool
         ensures { result ≡ true → notes_answer self.now None ≡ self.now }
     {

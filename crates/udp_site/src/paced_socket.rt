@@ -132,9 +132,9 @@ impl<R: Clock + Drop> PacedSocket<R> {
     }
 
     /// Waits for a datagram, for as long as the pace says, and takes it into the buffer; or the
-    /// turn is idle. Where the pace says so at once, what has come stays in the socket. A datagram
-    /// from another address is passed over, and so is a client's request to recover that comes too
-    /// early. So is a question how the site stands, once it is answered.
+    /// turn is idle. Where the pace says so at once, what has come stays where it is. A datagram from
+    /// another address is passed over, and so is a client's request to recover that comes too early.
+    /// So is a question how the site stands, once it is answered.
     pub(crate) fn wait_for(
         &self,
         alloc: Global,

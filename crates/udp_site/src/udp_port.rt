@@ -113,9 +113,9 @@ impl<R: Clock + Drop> UdpPort<R> {
         }
     }
 
-    /// From now on each datagram that is handed out gets a tag by these keys. One that comes with a
-    /// right tag is taken without it, and any other is one of no bytes: so it is no message, and the
-    /// pace learns nothing from it.
+    /// From now on each datagram that leaves through the socket gets a tag by these keys. One that
+    /// comes there with a right tag is taken without it, and any other is one of no bytes: so it is
+    /// no message, and the pace learns nothing from it.
     pub fn seal_with(&mut self, keys: KeyRing)
         ensures failures { failures_of self.new ≡ failures_of self.old }
         ensures pace { pace_of self.new ≡ pace_of self.old }
