@@ -9,8 +9,8 @@ use Rattle.fed_types.specs.declared.bag_id.BagId.{BagId}
 use Rattle.fed_types.specs.Bags.{same_bag}
 use Rattle.known_bags.specs.declared.known_bag.KnownBag.{KnownBag}
 use Rattle.udp_site.specs.Traffic.{Move, Grows}
-use Rattle.catch_up.specs.declared.rounds.AskFault.{AskFault}
-use Rattle.catch_up.specs.declared.rounds.AskFault.TheVariants.{Memory, Output}
+use Rattle.catch_up.specs.declared.said_answers.AskFault.{AskFault}
+use Rattle.catch_up.specs.declared.said_answers.AskFault.TheVariants.{Memory, Output}
 use Rattle.catch_up.specs.declared.rounds.Target.{Target}
 use Rattle.catch_up.specs.Lines.{known_line}
 use Rattle.catch_up.specs.Rounds.{Answer, answer_line}

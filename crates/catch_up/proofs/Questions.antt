@@ -13,7 +13,7 @@ use Rattle.std.specs.Io.KnownBytes.{Appends}
 use Rattle.known_bags.specs.declared.known_bag.KnownBag.{KnownBag}
 use Rattle.udp_site.specs.Traffic.{Move, Grows}
 use Rattle.udp_site.proofs.Growth.{Grows-trans, Grows-none}
-use Rattle.catch_up.specs.declared.rounds.AskFault.{AskFault}
+use Rattle.catch_up.specs.declared.said_answers.AskFault.{AskFault}
 use Rattle.catch_up.specs.declared.rounds.Target.{Target}
 use Rattle.catch_up.specs.Rounds.{Answer, AreAnswers, answer_line, answer_lines, is_same, same_in}
 use Rattle.catch_up.specs.Rounds.{left_by, left_of, AreRounds, AreWhole, round_lines, same_after}

@@ -14,8 +14,8 @@ use Rattle.outcomes.specs.declared.fault.ProgramFault.TheVariants as faults
 use Rattle.outcomes.specs.Outcomes.{no_memory}
 use Rattle.udp_site.specs.Traffic.{Move, Grows}
 use Rattle.site_commands.specs.Answers.{IsWritten}
-use Rattle.catch_up.specs.declared.rounds.AskFault.{AskFault}
-use Rattle.catch_up.specs.declared.rounds.AskFault.TheVariants.{Memory, Output}
+use Rattle.catch_up.specs.declared.said_answers.AskFault.{AskFault}
+use Rattle.catch_up.specs.declared.said_answers.AskFault.TheVariants.{Memory, Output}
 use Rattle.catch_up.specs.declared.rounds.Target.{Target}
 use Rattle.catch_up.specs.Lines.{open_line, count_line}
 use Rattle.catch_up.specs.Rounds.{open_of, round_lines, same_after, left_after, last_round}

@@ -9,7 +9,7 @@ use Rattle.std.proofs.Math.ListN.{set}
 use Rattle.std.specs.Prelude.{IsErrAnd}
 use Rattle.known_bags.specs.declared.known_bag.KnownBag.{KnownBag}
 use Rattle.udp_site.specs.Traffic.{Move}
-use Rattle.catch_up.specs.declared.rounds.AskFault.{AskFault}
+use Rattle.catch_up.specs.declared.said_answers.AskFault.{AskFault}
 use Rattle.catch_up.specs.declared.rounds.Target.{Target}
 use Rattle.catch_up.specs.Rounds.{Answer, open_of, same_in, left_of}
 use Rattle.catch_up.specs.inner.Progress.{GoesOn, StopsIn, IsAskedOnce, IsRound, version_after}

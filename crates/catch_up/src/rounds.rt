@@ -1,18 +1,18 @@
 //! A site that is asked for each version, until it knows them.
 
-ghost use Rattle.std.specs.Prelude.{◌≡◌, if◌then◌else◌, [], ◌∷◌, Err, OnOk, OnErr, IfOk};
+ghost use Rattle.std.specs.Prelude.{◌≡◌, if◌then◌else◌, [], ◌∷◌, OnOk, OnErr};
 ghost use Rattle.std.specs.Io.KnownBytes.{Appends};
 ghost use Rattle.cell_device.specs.Calls.{HasCause};
 ghost use Rattle.fed_types.specs.Bags.{same_bag};
-ghost use Rattle.catch_up.specs.Lines.{count_line};
 ghost use Rattle.catch_up.specs.Rounds.{bag_by, open_of, in_round, next_round};
-ghost use Rattle.catch_up.specs.Reports.{open_lines, status_of, IsCaughtUp};
+ghost use Rattle.catch_up.specs.Reports.{open_lines, IsCaughtUp};
 ghost use Rattle.catch_up.specs.inner.Progress.{AppendsPart, IsAskedFor, IsAskedOnce, IsRound};
 ghost use Rattle.catch_up.specs.inner.Progress.{AreAsked, AreReported};
-ghost use Rattle.catch_up.specs.declared.rounds.AskFault.TheVariants.{Memory, Output};
+ghost use Rattle.catch_up.specs.declared.said_answers.AskFault.TheVariants.{Output};
 
 use crate::next_round::awaits_round;
-use crate::progress::{count_line, known_line, open_line};
+use crate::progress::{known_line, open_line};
+use crate::said_answers::{AskFault, say, write_count};
 use crate::timer::Timer;
 use addresses::Address;
 use counted_writes::{CountedWrite, write_output};
@@ -56,23 +56,6 @@ impl<'a> Target<'a> {
         ensures { result ≡ next_round self.now }
     {
         self.at(self.round.saturating_add(1))
-    }
-}
-
-/// Why it isn't asked to the end.
-#[derive(Clone, Copy)]
-pub(crate) enum AskFault {
-    Memory,
-    Output,
-}
-
-impl From<AllocError> for AskFault {
-    ghost use Rattle.catch_up.specs.declared.rounds.AskFault.TheVariants.{Memory};
-
-    ghost from_gives = { λ _ e. e ≡ Memory };
-
-    fn from(_: AllocError) -> AskFault {
-        AskFault::Memory
     }
 }
 
@@ -285,36 +268,4 @@ fn write_unless_known<W: CountedWrite>(
     }
     let line = open_line(alloc, &known.slot)?;
     say(output, line.as_str())
-}
-
-// How many of how many, and the status.
-fn write_count<W: CountedWrite>(
-    alloc: Global,
-    same: usize,
-    count: usize,
-    output: &mut W,
-) -> Result<u8, AskFault>
-    ensures status { IfOk result (λ status. status ≡ status_of same count) }
-    ensures ok { OnOk result (Appends (W.contents output.old) (W.contents output.new)
-        (count_line same count)) }
-    ensures err { OnErr result (AppendsPart (W.contents output.old) (W.contents output.new)
-        (count_line same count)) }
-    ensures cause { HasCause Output (W.failures output.old) (W.failures output.new) result }
-{
-    let line = count_line(alloc, same, count)?;
-    say(output, line.as_str())?;
-    Ok(if same == count { 0 } else { 1 })
-}
-
-fn say<W: CountedWrite>(output: &mut W, line: &str) -> Result<(), AskFault>
-    ensures ok { OnOk result (Appends (W.contents output.old) (W.contents output.new) line.now) }
-    ensures err { OnErr result (result ≡ Err Output) }
-    ensures part { OnErr result
-        (AppendsPart (W.contents output.old) (W.contents output.new) line.now) }
-    ensures cause { HasCause Output (W.failures output.old) (W.failures output.new) result }
-{
-    match output.write_whole(line.as_bytes()) {
-        Ok(()) => Ok(()),
-        Err(_) => Err(AskFault::Output),
-    }
 }

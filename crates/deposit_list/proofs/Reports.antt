@@ -23,8 +23,8 @@ use Rattle.catch_up.proofs.Parts.{whole_part, part_of_both, then_part}
 use Rattle.deposit_list.specs.declared.aim.Aim.{Aim}
 use Rattle.deposit_list.specs.declared.deposit.Deposit.{Deposit}
 use Rattle.deposit_list.specs.declared.entry.Entry.{Entry}
-use Rattle.deposit_list.specs.declared.send_all.SendFault.{SendFault}
-use Rattle.deposit_list.specs.declared.send_all.SendFault.TheVariants.{Memory, Output}
+use Rattle.catch_up.specs.declared.said_answers.AskFault.{AskFault}
+use Rattle.catch_up.specs.declared.said_answers.AskFault.TheVariants.{Memory, Output}
 use Rattle.deposit_list.specs.Lines.{entry_line}
 use Rattle.deposit_list.specs.Windows.{AreWindows, IsCutWindow, window_size}
 use Rattle.deposit_list.specs.Reports.{report, reached_in, entry_lines, AreSent}
@@ -67,7 +67,7 @@ module _ (to : ℕ) (entries : List Entry) (place : ℕ) (d : Entry) (within : p
 
 -- ---- all of them
 
-only_none : (aim : Aim) (asked : Target) (rest : List Deposit) (fault : SendFault)
+only_none : (aim : Aim) (asked : Target) (rest : List Deposit) (fault : AskFault)
     → OnlyMemory aim asked rest fault [] []
 only_none aim asked rest Memory = inl (refl, refl)
 only_none aim asked rest Output = (refl, refl)
@@ -84,7 +84,7 @@ module _ (aim : Aim) (asked : Target) (deposits : List Deposit) (t u v : Option 
     (a b c : Option (List Move)) (o n : Option (List ℕ)) where
   -- memory ran out while a window was sent
   pub window_stopped : (rest window after : List Deposit) (reached : ℕ)
-      (result : Result ℕ SendFault) → rest ≡ window ++ after
+      (result : Result ℕ AskFault) → rest ≡ window ++ after
       → length window ≡ min (window_size aim) (length rest) → IsErrAnd result (λ e. e ≡ Memory)
       → AreSentTo aim asked deposits rest reached t u a b o n
       → IsCutBy aim asked window u v b c → AreReported aim asked deposits t v a c o n result
@@ -92,7 +92,7 @@ module _ (aim : Aim) (asked : Target) (deposits : List Deposit) (t u v : Option 
   window_stopped rest window after reached (Err fault) parts long is
       (windows, sent, entries, all, full, counted, lengths, (moves, beats, grows, beaten, are, said))
       (others, later, goes, waits, cut) =
-      subst (λ (f : SendFault). AreReported aim asked deposits t v a c o n (Err f)) (sym is) (
+      subst (λ (f : AskFault). AreReported aim asked deposits t v a c o n (Err f)) (sym is) (
         windows,
         sent,
         rest,
@@ -114,7 +114,7 @@ module _ (aim : Aim) (asked : Target) (deposits : List Deposit) (t v : Option (L
     (a c : Option (List Move)) (o n : Option (List ℕ)) where
   -- a line of it wasn't written
   pub lines_stopped : (after : List Deposit) (reached : ℕ) (now : List Entry)
-      (q : Option (List ℕ)) (result : Result ℕ SendFault) (fault : SendFault)
+      (q : Option (List ℕ)) (result : Result ℕ AskFault) (fault : AskFault)
       → IsErrAnd result (λ e. e ≡ fault)
       → AreSentBut aim asked deposits after reached now t v a c o n
       → AppendsPart n q (entry_lines asked.to now)
@@ -152,7 +152,7 @@ module _ (aim : Aim) (asked : Target) (deposits : List Deposit) (t v : Option (L
 
   -- all are sent, and the count is written or not
   pub counted_all : (rest : List Deposit) (reached : ℕ) (q : Option (List ℕ))
-      (result : Result ℕ SendFault) → rest ≡ []
+      (result : Result ℕ AskFault) → rest ≡ []
       → AreSentTo aim asked deposits rest reached t v a c o n
       → IfOk result (λ status. status ≡ status_of reached (length deposits))
       → OnOk result (Appends n q (count_line reached (length deposits)))
@@ -193,7 +193,7 @@ module _ (aim : Aim) (asked : Target) (deposits : List Deposit) (t v : Option (L
             (subst (λ (k : ℕ). AppendsPart n q (count_line k (length deposits))) counted err),
       )
 
-pub on_err : {T : Type 0} (result : Result T SendFault) (P : Type 0) → P → OnErr result P
+pub on_err : {T : Type 0} (result : Result T AskFault) (P : Type 0) → P → OnErr result P
 on_err (Ok done) P p = tt
 on_err (Err fault) P p = p
 

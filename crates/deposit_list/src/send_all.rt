@@ -1,15 +1,13 @@
 //! All deposits of a list, window by window.
 
-ghost use Rattle.std.specs.Prelude.{◌≡◌, Err, IfOk, OnOk, OnErr};
+ghost use Rattle.std.specs.Prelude.{◌≡◌, OnOk, OnErr};
 ghost use Rattle.std.specs.Io.KnownBytes.{Appends};
 ghost use Rattle.cell_device.specs.Calls.{HasCause};
-ghost use Rattle.catch_up.specs.Lines.{count_line};
-ghost use Rattle.catch_up.specs.Reports.{status_of};
 ghost use Rattle.catch_up.specs.inner.Progress.{AppendsPart};
 ghost use Rattle.deposit_list.specs.Windows.{window_size};
 ghost use Rattle.deposit_list.specs.Reports.{reached_in, entry_lines, AreSent};
 ghost use Rattle.deposit_list.specs.inner.Progress.{AreReported};
-ghost use Rattle.deposit_list.specs.declared.send_all.SendFault.TheVariants.{Memory, Output};
+ghost use Rattle.catch_up.specs.declared.said_answers.AskFault.TheVariants.{Output};
 
 use crate::aim::Aim;
 use crate::deposit::Deposit;
@@ -17,32 +15,15 @@ use crate::entry::Entry;
 use crate::entry_text::entry_line;
 use crate::rounds::ask_window;
 use crate::watch::Watch;
-use catch_up::{Target, Timer, count_line};
+use catch_up::{AskFault, Target, Timer, say, write_count};
 use counted_writes::{CountedWrite, write_output};
 use fed_types::SiteNo;
 use outcomes::ProgramFault;
-use std::alloc::{AllocError, Global};
+use std::alloc::Global;
 use udp_site::Port;
 
 /// How many deposits are under way at most where their bags are to be known.
 const WINDOW: usize = 32;
-
-/// Why it isn't done to the end.
-#[derive(Clone, Copy)]
-pub(crate) enum SendFault {
-    Memory,
-    Output,
-}
-
-impl From<AllocError> for SendFault {
-    ghost use Rattle.deposit_list.specs.declared.send_all.SendFault.TheVariants.{Memory};
-
-    ghost from_gives = { λ _ e. e ≡ Memory };
-
-    fn from(_: AllocError) -> SendFault {
-        SendFault::Memory
-    }
-}
 
 /// Sends these deposits to a site, and writes a line for each, in their order; then of how many of
 /// them has come what was to come. The status is 0 where that is all. If it is that the site
@@ -68,8 +49,8 @@ pub fn send_all_on<P: Port, T: Timer, V: Watch, W: CountedWrite>(
 {
     match send_watched(alloc, timer, port, asked, aim, deposits, watch, output) {
         Ok(status) => Ok(status),
-        Err(SendFault::Memory) => write_output(output, 1, "memory\n"),
-        Err(SendFault::Output) => Err(ProgramFault::Output),
+        Err(AskFault::Memory) => write_output(output, 1, "memory\n"),
+        Err(AskFault::Output) => Err(ProgramFault::Output),
     }
 }
 
@@ -83,7 +64,7 @@ fn send_watched<P: Port, T: Timer, V: Watch, W: CountedWrite>(
     deposits: &[Deposit],
     watch: &mut V,
     output: &mut W,
-) -> Result<u8, SendFault>
+) -> Result<u8, AskFault>
     ensures sent { AreReported aim asked.now deposits.now (T.beats timer.old) (T.beats timer.new)
         (P.traffic port.old) (P.traffic port.new) (W.contents output.old)
         (W.contents output.new) result }
@@ -103,7 +84,7 @@ fn send_windows<P: Port, T: Timer, V: Watch, W: CountedWrite>(
     deposits: &[Deposit],
     watch: &mut V,
     output: &mut W,
-) -> Result<u8, SendFault>
+) -> Result<u8, AskFault>
     ensures sent { AreReported aim asked.now deposits.now (T.beats timer.old) (T.beats timer.new)
         (P.traffic port.old) (P.traffic port.new) (W.contents output.old)
         (W.contents output.new) result }
@@ -151,7 +132,7 @@ fn write_lines<W: CountedWrite>(
     to: SiteNo,
     entries: &[Entry<'_>],
     output: &mut W,
-) -> Result<(), SendFault>
+) -> Result<(), AskFault>
     ensures ok { OnOk result (Appends (W.contents output.old) (W.contents output.new)
         (entry_lines to entries.now)) }
     ensures err { OnErr result (AppendsPart (W.contents output.old) (W.contents output.new)
@@ -163,36 +144,4 @@ fn write_lines<W: CountedWrite>(
         say(output, line.as_str())?;
     }
     Ok(())
-}
-
-// Of how many of how many it has, and the status.
-fn write_count<W: CountedWrite>(
-    alloc: Global,
-    reached: usize,
-    count: usize,
-    output: &mut W,
-) -> Result<u8, SendFault>
-    ensures status { IfOk result (λ status. status ≡ status_of reached count) }
-    ensures ok { OnOk result (Appends (W.contents output.old) (W.contents output.new)
-        (count_line reached count)) }
-    ensures err { OnErr result (AppendsPart (W.contents output.old) (W.contents output.new)
-        (count_line reached count)) }
-    ensures cause { HasCause Output (W.failures output.old) (W.failures output.new) result }
-{
-    let line = count_line(alloc, reached, count)?;
-    say(output, line.as_str())?;
-    Ok(if reached == count { 0 } else { 1 })
-}
-
-fn say<W: CountedWrite>(output: &mut W, line: &str) -> Result<(), SendFault>
-    ensures ok { OnOk result (Appends (W.contents output.old) (W.contents output.new) line.now) }
-    ensures err { OnErr result (result ≡ Err Output) }
-    ensures part { OnErr result
-        (AppendsPart (W.contents output.old) (W.contents output.new) line.now) }
-    ensures cause { HasCause Output (W.failures output.old) (W.failures output.new) result }
-{
-    match output.write_whole(line.as_bytes()) {
-        Ok(()) => Ok(()),
-        Err(_) => Err(SendFault::Output),
-    }
 }

@@ -9,8 +9,8 @@ use Rattle.udp_site.specs.Traffic.{Move, Grows}
 use Rattle.fed_types.specs.Slots.{SlotName}
 use Rattle.site_commands.specs.declared.reply.Wanted.TheVariants as wanted
 use Rattle.site_commands.specs.Replies.{first_reply}
-use Rattle.catch_up.specs.declared.rounds.AskFault.{AskFault}
-use Rattle.catch_up.specs.declared.rounds.AskFault.TheVariants.{Memory, Output}
+use Rattle.catch_up.specs.declared.said_answers.AskFault.{AskFault}
+use Rattle.catch_up.specs.declared.said_answers.AskFault.TheVariants.{Memory, Output}
 use Rattle.catch_up.specs.declared.rounds.Target.{Target}
 use Rattle.catch_up.specs.Rounds.{Answer, question, bag_in, HasAskedFor, AsksFor, IsOneMore}
 use Rattle.catch_up.specs.Rounds.{open_of, AreAnswers}

@@ -11,8 +11,8 @@ use Rattle.catch_up.specs.inner.Progress.{AppendsPart}
 use Rattle.deposit_list.specs.declared.deposit.Deposit.{Deposit}
 use Rattle.deposit_list.specs.declared.entry.Entry.{Entry}
 use Rattle.deposit_list.specs.declared.aim.Aim.{Aim}
-use Rattle.deposit_list.specs.declared.send_all.SendFault.{SendFault}
-use Rattle.deposit_list.specs.declared.send_all.SendFault.TheVariants.{Memory, Output}
+use Rattle.catch_up.specs.declared.said_answers.AskFault.{AskFault}
+use Rattle.catch_up.specs.declared.said_answers.AskFault.TheVariants.{Memory, Output}
 use Rattle.deposit_list.specs.Windows.{IsStep, IsRound, IsAwaited, IsLast, AreAllRounds, IsWindow}
 use Rattle.deposit_list.specs.Windows.{AreWindows, AsksAbout, IsCutRound, AreCutRounds, AreFresh}
 use Rattle.deposit_list.specs.Windows.{IsCutAsked, IsCutWindow}
@@ -83,14 +83,14 @@ AreDone aim asked windows sent entries since until before after old new =
     × Appends old new (entry_lines asked.to entries)
 
 -- what was sent and asked after the windows: nothing, unless memory ran out
-abbrev pub OnlyMemory : Aim → Target → (rest : List Deposit) → SendFault → List Move → List Beat
+abbrev pub OnlyMemory : Aim → Target → (rest : List Deposit) → AskFault → List Move → List Beat
     → Type 0
 OnlyMemory aim asked rest Memory others later = IsCutWindow aim asked rest others later
 OnlyMemory aim asked rest Output others later = (others ≡ []) × (later ≡ [])
 
 -- and what is written then
 abbrev pub AreReported : Aim → Target → List Deposit → (since until : Option (List Beat))
-    → (before after : Option (List Move)) → (old new : Option (List ℕ)) → Result ℕ SendFault
+    → (before after : Option (List Move)) → (old new : Option (List ℕ)) → Result ℕ AskFault
     → Type 0
 AreReported aim asked deposits since until before after old new (Ok status) =
     (windows : ℕ) × (entries : List Entry) × (moves : List Move) × (beats : List Beat)

@@ -1,5 +1,5 @@
 use Rattle.std.proofs.Common.{Ok, subst, ◌∙◌, true, List, ℕ}
-use Rattle.catch_up.specs.declared.rounds.AskFault.TheVariants.{Memory}
+use Rattle.catch_up.specs.declared.said_answers.AskFault.TheVariants.{Memory}
 use Rattle.catch_up.specs.Rounds.{Answer}
 use Rattle.catch_up.specs.inner.Progress.{IsAskedFor, AppendsPart}
 use Rattle.catch_up.proofs.Parts.{no_part}

@@ -1,5 +1,5 @@
 use Rattle.std.proofs.Common.{Err, subst}
-use Rattle.catch_up.specs.declared.rounds.AskFault.{AskFault}
+use Rattle.catch_up.specs.declared.said_answers.AskFault.{AskFault}
 use Rattle.catch_up.specs.inner.Progress.{AreReported}
 use Rattle.catch_up.proofs.Reports.{memory_ran_out}
 use Rattle.catch_up.proofs.rounds.catch_up_on.Goals as goal
