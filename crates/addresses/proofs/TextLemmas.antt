@@ -15,7 +15,8 @@ use Rattle.std.specs.Bool.{Decides}
 use Rattle.std.proofs.lemmas.Bool.{cases_lt, false≢true}
 use Rattle.std.proofs.lemmas.Slice.Eq.{bytes_eq-Decides}
 use Rattle.addresses.specs.Addresses.{host_of, port_of}
-use Rattle.addresses.specs.Texts.{ADDRESSES, IsTextOf, address_below, address_in, is_ipv4, is_listable}
+use Rattle.addresses.specs.Texts.{ADDRESSES, IsTextOf, address_below, address_in, is_ipv4}
+use Rattle.addresses.specs.Texts.{is_listable}
 use Rattle.addresses.specs.Texts.{of_socket, socket_of, text_of}
 use Rattle.addresses.proofs.BackLemmas.{address_back, bytes_small, segments_small}
 

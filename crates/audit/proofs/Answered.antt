@@ -1,5 +1,5 @@
 -- What is found of a version by its row is so.
-use Rattle.std.proofs.Common.{◌≡◌, inl, inr, refl, sym, ap, ◌∙◌, List}
+use Rattle.std.proofs.Common.{◌≡◌, inl, inr, refl, List}
 use Rattle.std.proofs.Common.{Option, Some, None, IsSome}
 use Rattle.fed_types.specs.declared.bag_id.BagId.{BagId}
 use Rattle.fed_types.specs.declared.vote.Vote.{Vote}
@@ -12,50 +12,46 @@ use Rattle.audit.specs.Laws.{ShowChosen, SayKnown, IsNamed}
 use Rattle.audit.specs.inner.Rows.{finding_by, finding_in}
 use Rattle.audit.specs.Tables.{IsRowFor}
 
-same_some : {X : Type 0} (x y : X) → Some x ≡ Some y → x ≡ y
-same_some x y e = cc
-
 module _ (q : QuorumSystem) (given : List SiteRecord) (slot : SlotName) (row : Row)
     (is : IsRowFor q given slot row) where
   -- where there is no other, each named bag is the first
   is_first : row.other ≡ None → (bag : BagId) → IsNamed q given slot bag → row.first ≡ Some bag
   is_first none bag n = elim (is.all_named bag n) [
     | inl first ↦ first
-    | inr other ↦ absurd (cc (ap (λ (o : Option BagId). IsSome o) none, other))
+    | inr other ↦ absurd (cc (rw none at other))
   ]
 
   found : (first other : Option BagId) (chosen : Option Vote) → row.first ≡ first
       → row.other ≡ other → row.chosen ≡ chosen
       → IsFinding q given slot (finding_by first other chosen)
   found None other chosen f o c = λ bag n. elim (is.all_named bag n) [
-    | inl first ↦ absurd (cc (sym f ∙ first))
+    | inl first ↦ cc (f, first)
     | inr some ↦ none_first other o some
   ]
     where
       none_first : (other : Option BagId) → row.other ≡ other → IsSome row.other → ⊥
-      none_first None o some = absurd (cc (sym (ap (λ (x : Option BagId). IsSome x) o), some))
-      none_first (Some b) o some = absurd (cc (sym f ∙ (is.other_is b o).1.1))
+      none_first None o some = cc (rw o at some)
+      none_first (Some b) o some = cc (f, (is.other_is b o).1.1)
   found (Some first) (Some other) chosen f o c =
       let w = is.other_is other o in (
         is.first_is first f,
         w.0,
-        λ same. w.1.2 (same_some w.1.0 first (sym w.1.1 ∙ f) ∙ same),
+        λ same. w.1.2 (cc (w.1.1, f, same)),
       )
   found (Some first) None (Some vote) f o c =
       let by = is.chosen_is vote c in (
         by,
-        λ other n. same_some other vote.bag (sym (is_first o other n)
-            ∙ is_first o vote.bag (inl (record { ballot = vote.ballot; chosen = by }))),
+        λ other n. cc (
+          is_first o other n,
+          is_first o vote.bag (inl (record { ballot = vote.ballot; chosen = by })),
+        ),
       )
   found (Some first) None None f o c =
       let no_vote : (other : BagId) → ¬ ShowChosen q given slot other =
-      λ other shown. absurd (cc (
-        ap (λ (x : Option Vote). IsSome x) c,
-        is.all_chosen (record { ballot = shown.ballot; bag = other }) shown.chosen,
-      )) in (
+      λ other shown. absurd (cc (rw c at (is.all_chosen _ shown.chosen))) in (
         known first no_vote (is.first_is first f),
         no_vote,
-        λ other n. same_some other first (sym (is_first o other n) ∙ f),
+        λ other n. cc (is_first o other n, f),
       )
     where
       known : (bag : BagId) → ((other : BagId) → ¬ ShowChosen q given slot other)

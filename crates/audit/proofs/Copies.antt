@@ -1,6 +1,5 @@
 -- What an auditor may be given.
-use Rattle.std.proofs.Common.{ℕ, inl, inr, sym, subst, List, [], ◌∷◌, ◌++◌}
-use Rattle.fed_types.specs.Lists.{Has}
+use Rattle.std.proofs.Common.{ℕ, inl, inr, List, [], ◌∷◌, ◌++◌}
 use Rattle.fed_types.specs.Quorums.{QuorumSystem, AreQuorums}
 use Rattle.fed_types.specs.Laws.Lists.{has_map, has_cases}
 use Rattle.records.specs.declared.record.Record.{Record}
@@ -13,7 +12,7 @@ use Rattle.audit.proofs.Reported.{run_on}
 pub whole : (w : Network) (n : ℕ) → AreOf w (cell_of n (w.sites n).records)
 whole w n s h =
     let from = has_map (λ (r : Record). record { site = n; kept = r }) (w.sites n).records h in
-    subst (λ (it : SiteRecord). Has it.kept (w.sites it.site).records) from.2 from.1
+    rw (← from.2) from.1
 
 pub together : (w : Network) (some more : List SiteRecord) → AreOf w some → AreOf w more
     → AreOf w (some ++ more)
@@ -36,5 +35,5 @@ pub older : (q : QuorumSystem) (events later : List Event) (given : List SiteRec
     → AreQuorums q → AreOf (run q new_network events) given
     → AreOf (run q new_network (events ++ later)) given
 older q events later given laws are =
-    subst (λ (w : Network). AreOf w given) (run_on q events later new_network)
-    (stays q laws later (run q new_network events) (run_kept q laws events) given are)
+    rw (run_on q events later new_network)
+    at (stays q laws later (run q new_network events) (run_kept q laws events) given are)

@@ -1,7 +1,7 @@
 -- The members that have a vote on record are counted.
 use Rattle.std.proofs.Common.{◌≡◌, Bool, true, false, cond, inl, inr, refl, sym, ap}
-use Rattle.std.proofs.Common.{◌∙◌, subst, List, [], ◌∷◌, Some, filter}
-use Rattle.std.proofs.lemmas.Bool.{or_cases, or_left, or_right, false≢true}
+use Rattle.std.proofs.Common.{◌∙◌, List, [], ◌∷◌, Some, filter}
+use Rattle.std.proofs.lemmas.Bool.{cases_Bool, or_cases, or_left, or_right, false≢true}
 use Rattle.std.specs.List.{list_any}
 use Rattle.fed_types.specs.declared.vote.Vote.{Vote}
 use Rattle.fed_types.specs.Lists.{Has, here, there}
@@ -39,13 +39,11 @@ has_filter {X} p x (y ∷ ys) h = go (p y) refl (λ k. has_filter p x ys k) h
 filter_has : {X : Type 0} (p : X → Bool) (x : X) (xs : List X) → Has x xs → p x ≡ true
     → Has x (filter p xs)
 filter_has p x [] h e = absurd (has_none h)
-filter_has {X} p x (y ∷ ys) (here is) e =
-    rw (ap p is ∙ e) (here is)
-filter_has {X} p x (y ∷ ys) (there h) e = go (p y) (filter_has p x ys h e)
-  where
-    go : (t : Bool) → Has x (filter p ys) → Has x (cond t (y ∷ filter p ys) (filter p ys))
-    go true rest = there rest
-    go false rest = rest
+filter_has p x (y ∷ ys) (here is) e = rw (ap p is ∙ e) (here is)
+filter_has p x (y ∷ ys) (there h) e = elim (cases_Bool (p y)) [
+  | inl t ↦ rw t (there (filter_has p x ys h e))
+  | inr f ↦ rw f (filter_has p x ys h e)
+]
 
 -- one that a test finds
 any_has : (vote : Vote) (votes : List Vote) → list_any (same_vote vote) votes ≡ true
@@ -69,19 +67,15 @@ has_any vote (v ∷ votes) (there h) =
 -- ---- records
 
 vote_from : (e : Entry) (vote : Vote) → vote_in e ≡ Some vote → e ≡ entry.Vote vote
-vote_from (entry.Deposit bag) vote is = absurd (cc is)
-vote_from (entry.Round round) vote is = absurd (cc is)
-vote_from (entry.Promise ballot) vote is = absurd (cc is)
 vote_from (entry.Vote v) vote is = ap entry.Vote (cc is)
-vote_from (entry.Known bag) vote is = absurd (cc is)
+vote_from _ vote is = absurd (cc is)
 
 -- a vote is among those of the records exactly where it is on record
 votes_on_record : (slot : SlotName) (records : List Record) (vote : Vote)
     → Has vote (votes_in slot records) → HasEntry slot records (entry.Vote vote)
 votes_on_record slot records vote h =
     let r = has_filter_map vote_in vote (entries slot records) h in
-    has_entry slot records (entry.Vote vote)
-    (subst (λ (e : Entry). Has e (entries slot records)) (vote_from r.0 vote r.2) r.1)
+    has_entry slot records (entry.Vote vote) (rw (vote_from r.0 vote r.2) at r.1)
 
 record_votes : (slot : SlotName) (records : List Record) (vote : Vote)
     → HasEntry slot records (entry.Vote vote) → Has vote (votes_in slot records)

@@ -1,190 +1,214 @@
 -- What one more record makes of what is kept of each version.
-use Rattle.std.proofs.Common.{◌≡◌, ◌⊎◌, ℕ, Bool, true, false, inl, inr, refl, sym, ap, subst, ◌∙◌}
-use Rattle.std.proofs.Common.{List}
-use Rattle.std.proofs.lemmas.Bool.{false≢true}
+use Rattle.std.proofs.Common.{◌≡◌, ◌⊎◌, ℕ, Bool, true, false, cond, inl, inr, refl, ap, List}
+use Rattle.std.proofs.Common.{Option, Some, None}
+use Rattle.std.proofs.lemmas.Bool.{cases_Bool}
 use Rattle.fed_types.specs.declared.bag_id.BagId.{BagId}
 use Rattle.fed_types.specs.declared.vote.Vote.{Vote}
-use Rattle.fed_types.specs.Quorums.{QuorumSystem}
-use Rattle.fed_types.specs.Slots.{SlotName}
+use Rattle.fed_types.specs.Quorums.{QuorumSystem, AreQuorums}
+use Rattle.fed_types.specs.Slots.{SlotName, same_slot}
+use Rattle.fed_types.specs.Voters.{with_voter}
+use Rattle.fed_types.specs.Laws.Lists.{is_in_decides}
+use Rattle.fed_types.specs.Laws.Slots.{same_slot_decides}
 use Rattle.records.specs.declared.entry.Entry.{Entry}
 use Rattle.records.specs.declared.entry.Entry.TheVariants as entry
-use Rattle.records.specs.Bounds.{HasEntry}
-use Rattle.world_law.specs.Laws.{OnRecord}
 use Rattle.dgram.specs.Heard.{same_vote}
 use Rattle.learner.proofs.HeardVotes.{same_vote_decides}
+use Rattle.slot_table.specs.Rows.{Rows, row_of, IsWith}
 use Rattle.audit.specs.declared.row.Row.{Row}
-use Rattle.audit.specs.Evidence.{SiteRecord, records_at, network_of}
+use Rattle.audit.specs.Evidence.{SiteRecord, network_of}
 use Rattle.audit.specs.Laws.{IsNamed}
-use Rattle.audit.specs.inner.Rows.{named, chosen_in, IsRowOf}
-use Rattle.audit.specs.Tables.{ChosenBy}
+use Rattle.audit.specs.inner.Casts.{Casts, cast_of, voters_in, IsCounted}
+use Rattle.audit.specs.inner.Rows.{empty_row, named, chosen_in}
+use Rattle.audit.specs.Tables.{ChosenBy, AreVoters, IsRowFor, AreRows}
+use Rattle.audit.proofs.CountedVotes.{voters_are, vote_counted}
+use Rattle.audit.proofs.GivenRecords.{more, old_or_new, keeps, newest}
 use Rattle.audit.proofs.NamedBags.{row_same, row_named, row_chosen}
 
--- an entry of a site's is on record, by what was given
-abbrev pub Given : List SiteRecord → ℕ → SlotName → Entry → Type 0
-Given given n slot e = HasEntry slot (records_at given n) e
+-- the bag that an entry can name, if it is one that can
+abbrev named_by : Entry → Option BagId
+named_by (entry.Vote vote) = Some vote.bag
+named_by (entry.Known bag) = Some bag
+named_by _ = None
 
-pub on_is : (given : List SiteRecord) (n : ℕ) (slot : SlotName) (e : Entry) → Given given n slot e
-    → OnRecord (network_of given) n slot e
-unfolding network_of
-on_is given n slot e h = h
+names_none : (e : Entry) → ((v : Vote) → e ≡ entry.Vote v → ⊥)
+    → ((b : BagId) → e ≡ entry.Known b → ⊥) → named_by e ≡ None
+names_none (entry.Vote v) no_vote no_bag = absurd (no_vote v refl)
+names_none (entry.Known b) no_vote no_bag = absurd (no_bag b refl)
+names_none _ no_vote no_bag = refl
 
-pub is_on : (given : List SiteRecord) (n : ℕ) (slot : SlotName) (e : Entry)
-    → OnRecord (network_of given) n slot e → Given given n slot e
-unfolding network_of
-is_on given n slot e h = h
+-- whether it is a vote
+is_vote : (e : Entry) (vote : Vote) → (e ≡ entry.Vote vote) ⊎ (e ≡ entry.Vote vote → ⊥)
+is_vote (entry.Vote v) vote = elim (cases_Bool (same_vote v vote)) [
+  | inl t ↦ inl (ap entry.Vote ((same_vote_decides v vote).0 t))
+  | inr f ↦ inr (λ is. cc (f, (same_vote_decides v vote).1 (cc is)))
+]
+is_vote _ vote = inr (λ is. cc is)
 
--- of a version: what was given before, and what is given now
-module _ (q : QuorumSystem) (old new : List SiteRecord) (slot : SlotName)
-    (keep : (n : ℕ) (e : Entry) → Given old n slot e → Given new n slot e) where
-  keep_vote : (vote : Vote) → ChosenBy q old slot vote → ChosenBy q new slot vote
+-- of a version s: what was given before, and what is given with an entry of another or of the same
+module _ (q : QuorumSystem) (given : List SiteRecord) (n : ℕ) (slot : SlotName) (e : Entry)
+    (s : SlotName) where
+  keep_vote : (vote : Vote) → ChosenBy q given s vote → ChosenBy q (more given n slot e) s vote
+  unfolding network_of
   keep_vote vote c = record {
     voters = c.voters;
     quorum = c.quorum;
-    voted = λ n among.
-        on_is new n slot (entry.Vote vote)
-        (keep n (entry.Vote vote) (is_on old n slot (entry.Vote vote) (c.voted n among)));
+    voted = λ m among. keeps given n slot e m s (entry.Vote vote) (c.voted m among);
   }
 
-  keep_bag : (bag : BagId) → IsNamed q old slot bag → IsNamed q new slot bag
-  keep_bag bag (inl shown) = inl (record {
-    ballot = shown.ballot;
-    chosen = keep_vote (record { ballot = shown.ballot; bag = bag }) shown.chosen;
-  })
-  keep_bag bag (inr known) = inr (
-    known.0,
-    on_is new known.0 slot (entry.Known bag)
-        (keep known.0 (entry.Known bag) (is_on old known.0 slot (entry.Known bag) known.1)),
-  )
+  keep_bag : (bag : BagId) → IsNamed q given s bag → IsNamed q (more given n slot e) s bag
+  unfolding network_of
+  keep_bag bag (inl shown) =
+      inl (record { ballot = shown.ballot; chosen = keep_vote _ shown.chosen })
+  keep_bag bag (inr known) =
+      inr (known.0, keeps given n slot e known.0 s (entry.Known bag) known.1)
 
-  -- no vote is new
-  back_vote : ((n : ℕ) (vote : Vote) → Given new n slot (entry.Vote vote)
-      → Given old n slot (entry.Vote vote)) → (vote : Vote) → ChosenBy q new slot vote
-      → ChosenBy q old slot vote
-  back_vote votes vote c = record {
-    voters = c.voters;
-    quorum = c.quorum;
-    voted = λ n among.
-        on_is old n slot (entry.Vote vote)
-        (votes n vote (is_on new n slot (entry.Vote vote) (c.voted n among)));
-  }
-
-  -- nothing is new
-  pub same : (row : Row) → ((n : ℕ) (vote : Vote) → Given new n slot (entry.Vote vote)
-      → Given old n slot (entry.Vote vote)) → ((n : ℕ) (bag : BagId)
-      → Given new n slot (entry.Known bag) → Given old n slot (entry.Known bag))
-      → IsRowOf (IsNamed q old slot) (ChosenBy q old slot) row
-      → IsRowOf (IsNamed q new slot) (ChosenBy q new slot) row
-  same row votes bags is =
-      row_same (IsNamed q old slot) (IsNamed q new slot) (ChosenBy q old slot)
-      (ChosenBy q new slot) row is keep_bag keep_vote back (back_vote votes)
+  -- a vote was chosen before, or it is the new entry
+  vote_back : (vote : Vote) → ChosenBy q (more given n slot e) s vote
+      → ChosenBy q given s vote ⊎ ((slot ≡ s) × (e ≡ entry.Vote vote))
+  unfolding network_of
+  vote_back vote c = elim it_is [
+    | inl it ↦ inr it
+    | inr not_it ↦ inl (record {
+      voters = c.voters;
+      quorum = c.quorum;
+      voted = λ m among.
+          elim (old_or_new given n slot e m s (entry.Vote vote) (c.voted m among)) [
+            | inl old ↦ old
+            | inr new ↦ absurd (not_it (new.1, new.2))
+          ];
+    })
+  ]
     where
-      back : (bag : BagId) → IsNamed q new slot bag → IsNamed q old slot bag
-      back bag (inl shown) = inl (record {
-        ballot = shown.ballot;
-        chosen = back_vote votes (record { ballot = shown.ballot; bag = bag }) shown.chosen;
-      })
-      back bag (inr known) = inr (
-        known.0,
-        on_is old known.0 slot (entry.Known bag)
-            (bags known.0 bag (is_on new known.0 slot (entry.Known bag) known.1)),
-      )
-
-  -- a bag is known
-  pub known_now : (row : Row) → ((n : ℕ) (vote : Vote) → Given new n slot (entry.Vote vote)
-      → Given old n slot (entry.Vote vote)) → (new_bag : BagId) → (site : ℕ)
-      → Given new site slot (entry.Known new_bag) → ((n : ℕ) (bag : BagId)
-      → Given new n slot (entry.Known bag)
-      → Given old n slot (entry.Known bag) ⊎ (bag ≡ new_bag))
-      → IsRowOf (IsNamed q old slot) (ChosenBy q old slot) row
-      → IsRowOf (IsNamed q new slot) (ChosenBy q new slot) (named row new_bag)
-  known_now row votes new_bag site is_new bags is =
-      row_named (IsNamed q old slot) (IsNamed q new slot) (ChosenBy q old slot)
-      (ChosenBy q new slot) row is keep_bag keep_vote (back_vote votes) new_bag
-      (inr (site, on_is new site slot (entry.Known new_bag) is_new)) back
-    where
-      back : (bag : BagId) → IsNamed q new slot bag → IsNamed q old slot bag ⊎ (bag ≡ new_bag)
-      back bag (inl shown) = inl (inl (record {
-        ballot = shown.ballot;
-        chosen = back_vote votes (record { ballot = shown.ballot; bag = bag }) shown.chosen;
-      }))
-      back bag (inr known) =
-          elim (bags known.0 bag (is_on new known.0 slot (entry.Known bag) known.1)) [
-            | inl before ↦ inl (inr (known.0, on_is old known.0 slot (entry.Known bag) before))
-            | inr this ↦ inr this
-          ]
-
-  -- one vote is new
-  module _ (new_vote : Vote)
-      (votes : (n : ℕ) (vote : Vote) → Given new n slot (entry.Vote vote)
-      → Given old n slot (entry.Vote vote) ⊎ (vote ≡ new_vote))
-      (bags : (n : ℕ) (bag : BagId) → Given new n slot (entry.Known bag)
-      → Given old n slot (entry.Known bag)) where
-    chosen_back : (vote : Vote) → ChosenBy q new slot vote
-        → ChosenBy q old slot vote ⊎ (vote ≡ new_vote)
-    chosen_back vote c = go (same_vote vote new_vote) refl
-      where
-        before : (vote ≡ new_vote → ⊥) → (n : ℕ) → Given new n slot (entry.Vote vote)
-            → Given old n slot (entry.Vote vote)
-        before differs n h = elim (votes n vote h) [
-          | inl old_one ↦ old_one
-          | inr this ↦ absurd (differs this)
+      it_is : ((slot ≡ s) × (e ≡ entry.Vote vote)) ⊎ ((slot ≡ s) × (e ≡ entry.Vote vote) → ⊥)
+      it_is = elim (cases_Bool (same_slot slot s)) [
+        | inl t ↦ elim (is_vote e vote) [
+          | inl is ↦ inl ((same_slot_decides slot s).0 t, is)
+          | inr other ↦ inr (λ it. other it.1)
         ]
+        | inr f ↦ inr (λ it. cc (f, (same_slot_decides slot s).1 it.0))
+      ]
 
-        go : (t : Bool) → same_vote vote new_vote ≡ t
-            → ChosenBy q old slot vote ⊎ (vote ≡ new_vote)
-        go true e = inr ((same_vote_decides vote new_vote).0 e)
-        go false e = inl (record {
-          voters = c.voters;
-          quorum = c.quorum;
-          voted = λ n among.
-              on_is old n slot (entry.Vote vote)
-              (before (λ is. false≢true (sym e ∙ (same_vote_decides vote new_vote).1 is)) n
-              (is_on new n slot (entry.Vote vote) (c.voted n among)));
-        })
+  -- a bag was named before, or the new entry names it; then, if this is a vote, it is chosen
+  bag_back : (bag : BagId) → IsNamed q (more given n slot e) s bag
+      → IsNamed q given s bag
+      ⊎ ((slot ≡ s) × (named_by e ≡ Some bag)
+      × ((vote : Vote) → e ≡ entry.Vote vote → ChosenBy q (more given n slot e) s vote))
+  unfolding network_of
+  bag_back bag (inl shown) = elim (vote_back _ shown.chosen) [
+    | inl before ↦ inl (inl (record { ballot = shown.ballot; chosen = before }))
+    | inr it ↦ inr (
+      it.0,
+      rw it.1 refl,
+      λ vote is.
+          let same : record { ballot = shown.ballot; bag = bag } ≡ vote = cc (is, it.1) in
+          rw (← same) shown.chosen,
+    )
+  ]
+  bag_back bag (inr known) =
+      elim (old_or_new given n slot e known.0 s (entry.Known bag) known.1) [
+        | inl before ↦ inl (inr (known.0, before))
+        | inr it ↦ inr (it.1, rw it.2 refl, λ vote is. absurd (cc (is, it.2)))
+      ]
 
-    named_back : (bag : BagId) → IsNamed q new slot bag
-        → IsNamed q old slot bag ⊎ (bag ≡ new_vote.bag)
-    named_back bag (inl shown) =
-        elim (chosen_back (record { ballot = shown.ballot; bag = bag }) shown.chosen) [
-          | inl before ↦ inl (inl (record { ballot = shown.ballot; chosen = before }))
-          | inr this ↦ inr (ap (λ (v : Vote). v.bag) this)
-        ]
-    named_back bag (inr known) = inl (inr (
-      known.0,
-      on_is old known.0 slot (entry.Known bag)
-          (bags known.0 bag (is_on new known.0 slot (entry.Known bag) known.1)),
-    ))
+  -- it names nothing in this version
+  pub same : (row : Row) → (slot ≡ s → named_by e ≡ None) → IsRowFor q given s row
+      → IsRowFor q (more given n slot e) s row
+  same row none is =
+      row_same is keep_bag keep_vote
+      (λ bag h. elim (bag_back bag h) [
+        | inl old ↦ old
+        | inr it ↦ absurd (cc (none it.0, it.1))
+      ])
+      (λ vote h. elim (vote_back vote h) [
+        | inl old ↦ old
+        | inr it ↦ absurd (cc (rw it.1 at (none it.0)))
+      ])
 
-    -- it makes a quorum
-    pub chosen_now : (row : Row) → ChosenBy q new slot new_vote
-        → IsRowOf (IsNamed q old slot) (ChosenBy q old slot) row
-        → IsRowOf (IsNamed q new slot) (ChosenBy q new slot) (chosen_in row new_vote)
-    chosen_now row c is =
-        row_chosen (IsNamed q old slot) (IsNamed q new slot) (ChosenBy q old slot)
-        (ChosenBy q new slot) row is keep_bag keep_vote new_vote c
-        (inl (record { ballot = new_vote.ballot; chosen = c })) named_back
+module _ (q : QuorumSystem) (given : List SiteRecord) (n : ℕ) (slot : SlotName) where
+  -- an entry that is neither a vote nor a known bag
+  pub nothing_filled : (e : Entry) → ((v : Vote) → e ≡ entry.Vote v → ⊥)
+      → ((b : BagId) → e ≡ entry.Known b → ⊥) → (row : Row) → IsRowFor q given slot row
+      → IsRowFor q (more given n slot e) slot row
+  nothing_filled e no_vote no_bag row =
+      same q given n slot e slot row (λ one. names_none e no_vote no_bag)
 
-    -- it makes none
-    pub not_chosen_now : (row : Row) → ¬ ChosenBy q new slot new_vote
-        → IsRowOf (IsNamed q old slot) (ChosenBy q old slot) row
-        → IsRowOf (IsNamed q new slot) (ChosenBy q new slot) row
-    not_chosen_now row none is =
-        row_same (IsNamed q old slot) (IsNamed q new slot) (ChosenBy q old slot)
-        (ChosenBy q new slot) row is keep_bag keep_vote back votes_back
+  pub known_filled : (bag : BagId) (row : Row) → IsRowFor q given slot row
+      → IsRowFor q (more given n slot (entry.Known bag)) slot (named row bag)
+  unfolding network_of
+  known_filled bag row is =
+      let it = entry.Known bag in
+      row_named is (keep_bag q given n slot it slot) (keep_vote q given n slot it slot)
+      (λ vote h. elim (vote_back q given n slot it slot vote h) [
+        | inl old ↦ old
+        | inr new ↦ absurd (cc new.1)
+      ]) bag (inr (n, newest given n slot it))
+      (λ b h. elim (bag_back q given n slot it slot b h) [
+        | inl old ↦ inl old
+        | inr new ↦ inr (cc new.1)
+      ])
+
+  module _ (laws : AreQuorums q) (old new : Casts) (vote : Vote)
+      (counted : IsCounted old new (cast_of slot vote)
+      (with_voter (voters_in old (cast_of slot vote)) n))
+      (are : AreVoters old given) (row : Row) (is : IsRowFor q given slot row) where
+    -- a vote, and whether it makes a quorum
+    pub vote_filled : (t : Bool)
+        → q.is_quorum (with_voter (voters_in old (cast_of slot vote)) n) ≡ t
+        → IsRowFor q (more given n slot (entry.Vote vote)) slot (cond t (chosen_in row vote) row)
+    unfolding network_of
+    vote_filled true e =
+        row_chosen is (keep_bag q given n slot it slot) (keep_vote q given n slot it slot) vote c
+        (inl (record { ballot = vote.ballot; chosen = c }))
+        (λ b h. elim (bag_back q given n slot it slot b h) [
+          | inl before ↦ inl before
+          | inr this ↦ inr (cc this.1)
+        ])
       where
-        votes_back : (vote : Vote) → ChosenBy q new slot vote → ChosenBy q old slot vote
-        votes_back vote c = elim (chosen_back vote c) [
+        it : Entry
+        it = entry.Vote vote
+
+        c : ChosenBy q (more given n slot (entry.Vote vote)) slot vote
+        c = record {
+          voters = voters_in new (cast_of slot vote);
+          quorum = rw (voters_are old new given n slot vote counted are) e;
+          voted = λ m among. (vote_counted old new given n slot vote counted are slot vote m).0
+              ((is_in_decides (voters_in new (cast_of slot vote)) m).1 among);
+        }
+    vote_filled false e =
+        row_same is (keep_bag q given n slot it slot) (keep_vote q given n slot it slot)
+        (λ b h. elim (bag_back q given n slot it slot b h) [
           | inl before ↦ before
-          | inr this ↦ absurd (none (subst (ChosenBy q new slot) this c))
-        ]
+          | inr this ↦ absurd (none (this.2 vote refl))
+        ])
+        (λ v h. elim (vote_back q given n slot it slot v h) [
+          | inl before ↦ before
+          | inr this ↦
+              let same : v ≡ vote = cc this.1 in absurd (none (rw same at h))
+        ])
+      where
+        it : Entry
+        it = entry.Vote vote
 
-        back : (bag : BagId) → IsNamed q new slot bag → IsNamed q old slot bag
-        back bag (inl shown) = inl (record {
-          ballot = shown.ballot;
-          chosen = votes_back (record { ballot = shown.ballot; bag = bag }) shown.chosen;
-        })
-        back bag (inr known) = inr (
-          known.0,
-          on_is old known.0 slot (entry.Known bag)
-              (bags known.0 bag (is_on new known.0 slot (entry.Known bag) known.1)),
-        )
+        none : ChosenBy q (more given n slot (entry.Vote vote)) slot vote → ⊥
+        none c =
+            let voters = voters_in new (cast_of slot vote) in
+            let quorum = laws.grow c.voters voters c.quorum
+            (λ m member among. (is_in_decides voters m).0
+            ((vote_counted old new given n slot vote counted are slot vote m).1
+            (c.voted m among))) in
+            cc (e, rw (voters_are old new given n slot vote counted are) at quorum)
+
+-- one version's row is another, and all others are as they were
+pub rows_filled : (q : QuorumSystem) (old new : Rows Row) (given : List SiteRecord) (n : ℕ)
+    (slot : SlotName) (e : Entry) (row : Row) → IsWith old new slot row
+    → AreRows q old given → IsRowFor q (more given n slot e) slot row
+    → AreRows q new (more given n slot e)
+rows_filled q old new given n slot e row put are after s =
+    rw (put s)
+    (elim (cases_Bool (same_slot slot s)) [
+      | inl t ↦ rw (t, ← (same_slot_decides slot s).0 t) after
+      | inr f ↦
+          rw f
+          (same q given n slot e s (row_of empty_row old s)
+          (λ is. absurd (cc (f, (same_slot_decides slot s).1 is))) (are s))
+    ])

@@ -1,13 +1,12 @@
+pub mod GivenRecords
 pub mod Shown
 pub mod Reported
 pub mod Decided
 pub mod Found
 pub mod Outcomes
 pub mod NamedBags
-pub mod GivenRecords
 pub mod CountedVotes
 pub mod KeptVersions
-pub mod GivenVotes
 pub mod Answered
 pub mod NoRecords
 pub mod Copies

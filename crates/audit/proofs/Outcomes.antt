@@ -5,7 +5,3 @@ pub both_ok : {X E A B G : Type 0} (r : Result X E) → OnOk r A → OnOk r B �
     → OnOk r G
 both_ok (Ok x) a b f = f a b
 both_ok (Err e) a b f = tt
-
-pub one_ok : {X E A G : Type 0} (r : Result X E) → OnOk r A → (A → G) → OnOk r G
-one_ok (Ok x) a f = f a
-one_ok (Err e) a f = tt

@@ -1,9 +1,9 @@
 -- What a run reports is what cells show.
-use Rattle.std.proofs.Common.{◌≡◌, refl, subst, List, [], ◌∷◌, ◌++◌}
+use Rattle.std.proofs.Common.{◌≡◌, refl, List, [], ◌∷◌, ◌++◌}
 use Rattle.fed_types.specs.declared.bag_id.BagId.{BagId}
 use Rattle.fed_types.specs.Quorums.{QuorumSystem, AreQuorums}
 use Rattle.fed_types.specs.Slots.{SlotName}
-use Rattle.world_law.specs.Laws.{IsChosen, notices_of}
+use Rattle.world_law.specs.Laws.{notices_of}
 use Rattle.world_law.specs.Networks.{Network, Event, new_network, happens, run}
 use Rattle.world_law.proofs.Induction.{chosen_once}
 use Rattle.world_law.proofs.Runs.{new_kept, run_kept}
@@ -26,8 +26,8 @@ module _ (q : QuorumSystem) (laws : AreQuorums q) where
   no_other events later given slot bag are shown m other h is =
       let all = events ++ later in
       let then = shown_is_chosen q (run q new_network events) given slot bag are shown in
-      let still = subst (λ (w : Network). IsChosen q w slot bag) (run_on q events later new_network)
-      (chosen_from q laws later (run q new_network events) (run_kept q laws events) slot bag
+      let still = rw (run_on q events later new_network)
+      at (chosen_from q laws later (run q new_network events) (run_kept q laws events) slot bag
       then) in
       chosen_once q (run q new_network all) laws (run_kept q laws all) slot other bag
       (reported_from q laws all new_network (new_kept q) m _ h is) still

@@ -1,40 +1,26 @@
 -- What cells show is so of the network that they are of.
-use Rattle.std.proofs.Common.{◌≡◌, ℕ, ◌==◌, Bool, true, false, cond, inl, inr, refl, subst}
-use Rattle.std.proofs.Common.{List, Some, None}
-use Rattle.std.proofs.lemmas.Bool.{eqb-true}
+use Rattle.std.proofs.Common.{ℕ, inl, inr, List}
 use Rattle.fed_types.specs.declared.bag_id.BagId.{BagId}
-use Rattle.fed_types.specs.Lists.{Has}
 use Rattle.fed_types.specs.Quorums.{QuorumSystem, AreQuorums}
 use Rattle.fed_types.specs.Slots.{SlotName}
 use Rattle.fed_types.specs.Laws.Lists.{has_filter_map}
 use Rattle.records.specs.declared.entry.Entry.{Entry}
-use Rattle.records.specs.declared.record.Record.{Record}
 use Rattle.world_law.specs.Laws.{IsChosen, OnRecord}
 use Rattle.world_law.specs.Networks.{Network, Event, new_network, run}
 use Rattle.world_law.proofs.Induction.{chosen_once}
 use Rattle.world_law.proofs.Runs.{run_kept}
-use Rattle.audit.specs.Evidence.{SiteRecord, record_at, records_at, network_of, AreOf}
+use Rattle.audit.specs.Evidence.{SiteRecord, record_at, network_of, AreOf}
 use Rattle.audit.specs.Laws.{ShowChosen, IsNamed, HaveNoConflict}
-
-from_given : (w : Network) (given : List SiteRecord) (n : ℕ) (r : Record) → AreOf w given
-    → Has r (records_at given n) → Has r (w.sites n).records
-from_given w given n r are h =
-    let f = has_filter_map (record_at n) r given h in go f.0 f.1 (f.0.site == n) refl f.2
-  where
-    go : (s : SiteRecord) → Has s given → (t : Bool) → (s.site == n) ≡ t
-        → cond t (Some s.kept) None ≡ Some r → Has r (w.sites n).records
-    go s among true e is =
-        let same : s.kept ≡ r = cc in
-        subst (λ (k : ℕ). Has r (w.sites k).records) (eqb-true s.site n e)
-        (subst (λ (x : Record). Has x (w.sites s.site).records) same (are s among))
-    go s among false e is = absurd (cc is)
+use Rattle.audit.proofs.GivenRecords.{at_site}
 
 pub given_on_record : (w : Network) (given : List SiteRecord) → AreOf w given
     → (n : ℕ) (slot : SlotName) (e : Entry) → OnRecord (network_of given) n slot e
     → OnRecord w n slot e
 unfolding network_of
 given_on_record w given are n slot e h =
-    from_given w given n (record { slot = slot; body = e }) are h
+    let f = has_filter_map (record_at n) _ given h in
+    let it = at_site n f.0 _ f.2 in
+    rw (it.0, it.1) at (are f.0 f.1)
 
 pub shown_is_chosen : (q : QuorumSystem) (w : Network) (given : List SiteRecord)
     (slot : SlotName) (bag : BagId) → AreOf w given → ShowChosen q given slot bag

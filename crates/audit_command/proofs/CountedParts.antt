@@ -369,7 +369,8 @@ module _ (members : Membership) (rule : SyncRule) (old new : Evidence) (taken : 
               ap damage_of (sym e),
               ap (λ (k : ℕ). of_site k (sure_of n rule.most_unsynced all.records))
                   (of ∙ ap (λ (h : Head). h.owner.site) same)
-                  ∙ ap (λ (rs : List Record). of_site said.owner.site (sure_of n rule.most_unsynced rs)) records,
+                  ∙ ap (λ (rs : List Record). of_site said.owner.site
+                  (sure_of n rule.most_unsynced rs)) records,
             ),
           )
       read members n bytes all ending Foreign synced (inl (said, is, e, t)) (head, its, not) =
@@ -390,7 +391,8 @@ module _ (members : Membership) (rule : SyncRule) (old new : Evidence) (taken : 
           )
       read members n bytes all ending Unknown synced (inr (no_owner, ends, t)) none =
           inl (no_owner, (refl, refl))
-      read members n bytes all ending (Member site) synced (inr (no_owner, ends, t)) (head, its, h) =
+      read members n bytes all ending (Member site) synced (inr (no_owner, ends, t))
+          (head, its, h) =
           absurd (no_head all head t its)
       read members n bytes all ending Foreign synced (inr (no_owner, ends, t)) (head, its, h) =
           absurd (no_head all head t its)

@@ -1,5 +1,5 @@
 -- The mark up to which a cell is synced.
-use Rattle.std.proofs.Common.{◌≡◌, ◌≢◌, ◌+◌, ◌-◌, ◌≤◌, ℕ, zero, suc, List, []}
+use Rattle.std.proofs.Common.{◌≡◌, ◌≢◌, ◌+◌, ◌-◌, ℕ, zero, suc, List, []}
 use Rattle.std.proofs.Common.{◌++◌, length}
 use Rattle.std.proofs.Common.{take, Option, None, Some, refl, sym, ap, subst, ◌∙◌, arith, inl, inr}
 use Rattle.std.proofs.lemmas.List.{length-append, take-append-le, append-nil}
@@ -154,9 +154,3 @@ mark_passed synced taken told sure held last left is are whole counts = (
       (sym (take-length taken)) (and_part told last.part, last.ending, whole, refl),
   counts ∙ waiting last.ending told sure held last.part are,
 )
-
--- fewer bytes don't pass the mark either
-pub ends_before : (count room : ℕ) (m : Mark) → count ≤ room → EndsBefore room m → EndsBefore count m
-ends_before count room Unsaid le before = tt
-ends_before count room (Ahead more) le before = omega (arith, le, before)
-ends_before count room (Passed left) le before = tt

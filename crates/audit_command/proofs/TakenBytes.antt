@@ -1,8 +1,7 @@
 -- What was read of a file.
 use Rattle.std.proofs.Common.{◌≡◌, ◌≢◌, ◌<◌, ℕ, zero, suc, List, [], ◌++◌, length, take, Option}
 use Rattle.std.proofs.Common.{None, Some, Bool, true, false, refl, sym, ap, subst, ◌∙◌}
-use Rattle.std.proofs.Common.{append_assoc, append-nil, IfSome, ◌≤◌}
-use Rattle.std.proofs.lemmas.List.{take-append-le}
+use Rattle.std.proofs.Common.{append_assoc, append-nil, IfSome}
 use Rattle.std.specs.Prelude.{IsSome, IfOk, Result, Ok, Err}
 use Rattle.fed_types.specs.Sites.{Membership}
 use Rattle.audit.specs.Evidence.{SiteRecord}
@@ -24,10 +23,6 @@ abbrev pub IsTaken : (first now : Option FileBytes) → List ℕ → Type 0
 IsTaken first now taken =
     IfSome first (λ file. (rest : List ℕ) × (file.bytes ≡ taken ++ rest)
     × (now ≡ Some (with_bytes file rest)))
-
-pub none_taken : (first : Option FileBytes) → IsTaken first first []
-none_taken None = tt
-none_taken (Some file) = (file.bytes, refl, refl)
 
 module _ (now after : Option FileBytes) (taken piece : List ℕ) where
   -- the next bytes
@@ -121,15 +116,3 @@ amiss members rule evidence given (Some file) now taken fault (rest, bytes, now_
     same true fault some = refl
     same false (Some fault) some = refl
     same false None some = absurd (cc some)
-
--- what was read to the front of a piece
-pub gives_front : (file : FileBytes) (front rest : List ℕ) (result : Option ℕ)
-    (after : Option FileBytes) → 0 < length front → IfSome result (λ count. count ≤ length front)
-    → Gives file front result after → Gives file (front ++ rest) result after
-gives_front file front rest None after some bound gives = gives
-gives_front file front rest (Some zero) after some bound gives = λ more. gives some
-gives_front file front rest (Some (suc n)) after some bound (left, bytes, is) = (
-  left,
-  bytes ∙ ap (λ (b : List ℕ). b ++ left) (sym (take-append-le (suc n) front rest bound)),
-  is,
-)

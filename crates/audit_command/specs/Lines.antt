@@ -3,8 +3,8 @@
 use Rattle.std.specs.Prelude.{ℕ, Bool, true, false, List, [], ◌∷◌, ◌++◌, codes, Option, Some, None}
 use Rattle.std.specs.List.{flat_map}
 use Rattle.std.specs.Fmt.{decimal}
-use Rattle.words.specs.Escapes.{escaped_text}
-use Rattle.words.specs.Written.{slot_text, bag_text, ballot_text}
+use Rattle.tokens.specs.Escapes.{escaped_text}
+use Rattle.tokens.specs.Written.{slot_text, bag_text, ballot_text}
 use Rattle.audit.specs.declared.finding.Finding.{Finding}
 use Rattle.audit.specs.declared.finding.Finding.TheVariants.{Chosen, Known, Open, Conflict}
 use Rattle.audit_command.specs.declared.cell_defect.CellDefect.{CellDefect}

@@ -6,7 +6,7 @@ ghost use Rattle.audit_command.specs.Arguments.{values_of, IsTaskIn};
 
 use clap::{Arg, ArgAction, ArgMatches, Command};
 use json_lines::json_argument;
-use site_commands::members_argument;
+use site_client::members_argument;
 use std::alloc::{AllocError, Global};
 
 const ABOUT: &str = "Says which bags the cells of several sites prove to be chosen";

@@ -7,7 +7,7 @@ use code_words::{LineSpeaker, OTHERS, push_name, say_text};
 use file_words::push_other_file;
 use ledger::LiveCell;
 use std::alloc::AllocError;
-use words::push_escaped;
+use tokens::push_escaped;
 
 /// Of so many conflicts the cells are named. Each time all cells are read once more, and whoever
 /// hands in a cell chooses how many conflicts there are.

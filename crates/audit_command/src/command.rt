@@ -16,7 +16,7 @@ use counted_writes::{CountedWrite, CountedWriter};
 use json_lines::JsonLines;
 use members_file::MemberSites;
 use outcomes::ProgramFault;
-use site_commands::{Stop, members_at, write_stop};
+use site_client::{Stop, members_at, write_stop};
 use std::alloc::Global;
 use std::hash::RandomState;
 use std::io;

@@ -2,7 +2,7 @@
 
 ghost use Rattle.std.specs.Prelude.{◌≡◌, ◌&&◌, ◌++◌, codes, IfOk};
 ghost use Rattle.std.specs.Option.{option_copied};
-ghost use Rattle.words.specs.Pushes.{Pushes};
+ghost use Rattle.tokens.specs.Pushes.{Pushes};
 ghost use Rattle.audit_command.specs.Mentions.{is_bag, is_slot, mention_by, mention_with};
 ghost use Rattle.audit_command.specs.Mentions.{how_text, mention_line};
 
@@ -12,7 +12,7 @@ use ledger::{LiveCell, read_contents};
 use outcomes::read_all;
 use records::{Entry, Record};
 use std::alloc::{AllocError, Global};
-use words::push_escaped;
+use tokens::push_escaped;
 
 /// The words of a line `conflict OBJ V HEX HEX`.
 #[derive(Clone, Copy)]

@@ -1,7 +1,7 @@
 //! How many versions there are of each kind.
 
 ghost use Rattle.std.specs.Prelude.{◌≡◌};
-ghost use Rattle.words.specs.Pushes.{Pushes};
+ghost use Rattle.tokens.specs.Pushes.{Pushes};
 ghost use Rattle.audit_command.specs.Lines.{counts_line};
 ghost use Rattle.audit_command.specs.Versions.{is_chosen, is_known, is_open, is_conflict, count_of};
 

@@ -121,8 +121,8 @@ fn open_cell(rt: &HostRuntime, path: &str) -> io::Result<DiskCell> {
         });
     }
     if is_locked(bytes.file())? {
-        // What its site says comes first: at least so many of the bytes that are read after that are
-        // synced, and none of these is ever cut off.
+        // What its site says comes first: at least so many of the bytes that are read after that
+        // are synced, and none of these is ever cut off.
         let synced = said_of(rt, path)?;
         // By now the site has synced all of these records, except perhaps those of one batch: it
         // syncs before it appends the next. What comes after them isn't read. If the site couldn't

@@ -2,7 +2,7 @@
 
 ghost use Rattle.std.specs.Prelude.{◌≡◌};
 ghost use Rattle.std.specs.List.{flat_map};
-ghost use Rattle.words.specs.Pushes.{Pushes};
+ghost use Rattle.tokens.specs.Pushes.{Pushes};
 ghost use Rattle.audit_command.specs.Lines.{fault_word, place_text, fault_line, finding_word};
 ghost use Rattle.audit_command.specs.Lines.{finding_text, version_line};
 
@@ -11,7 +11,7 @@ use crate::version::Version;
 use audit::Finding;
 use fed_types::{BagId, Ballot, Slot, Vote};
 use std::alloc::{AllocError, Global};
-use words::{push_bag, push_ballot, push_escaped, push_slot};
+use tokens::{push_bag, push_ballot, push_escaped, push_slot};
 
 fn fault_word(fault: CellDefect) -> &'static str
     ensures { result.now ≡ fault_word fault }

@@ -4,7 +4,7 @@ use fed_types::Members;
 use file_words::is_piped;
 use ledger::read_contents;
 use records::Owner;
-use site_commands::members_at;
+use site_client::members_at;
 use std::alloc::AllocError;
 use std::fs::File;
 use std::io::Read;

@@ -4,7 +4,7 @@ ghost use Rattle.std.specs.Prelude.{◌≡◌, ◌&&◌, ◌++◌, ◌∷◌, []
 ghost use Rattle.std.specs.Prelude.{IfSome, Some, false, ◌||◌};
 ghost use Rattle.audit_command.specs.declared.cell_defect.CellDefect.TheVariants as CellDefect;
 ghost use Rattle.audit.specs.Evidence.{SiteRecord};
-ghost use Rattle.words.specs.Pushes.{Pushes};
+ghost use Rattle.tokens.specs.Pushes.{Pushes};
 ghost use Rattle.audit_command.specs.Audits.{AreReadings, IsRead};
 ghost use Rattle.audit_command.specs.Lines.{in_use_line_if, line_if};
 ghost use Rattle.audit_command.specs.CellReadings.{Reading, IsReadingOfFile};

@@ -1,10 +1,10 @@
 //! The line of a cell that is in use.
 
-ghost use Rattle.words.specs.Pushes.{Pushes};
+ghost use Rattle.tokens.specs.Pushes.{Pushes};
 ghost use Rattle.audit_command.specs.Lines.{in_use_line};
 
 use std::alloc::AllocError;
-use words::push_escaped;
+use tokens::push_escaped;
 
 /// Appends the line that the cell of this path is in use.
 #[tactic(auto, unfolding(crate::specs::Lines::in_use_line), using(std::proofs::Common::append_assoc))]

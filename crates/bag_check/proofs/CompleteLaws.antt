@@ -1,8 +1,15 @@
 -- A valid bag is a complete one without a wrong digest.
-use Rattle.std.proofs.Common.{◌≡◌, Bool, true, false, cond, List, [], ◌∷◌, ◌++◌, Option, Some, None}
+use Rattle.std.proofs.Common.{◌≡◌, Bool, true, false, cond, List, [], ◌∷◌, Option, Some, None}
 use Rattle.std.proofs.Common.{Result, Ok, Err, refl, sym, ap, ◌∙◌, inl, inr}
 use Rattle.std.specs.Prelude.{IfSome}
 use Rattle.std.specs.List.{find, AllByRecursion}
+use Rattle.std.specs.Option.{option_or}
+use Rattle.std.proofs.lemmas.Bool.{cond_both}
+use Rattle.std.proofs.lemmas.List.Elements.{recursion_from_All}
+use Rattle.std.proofs.lemmas.List.Folds.{find-append}
+use Rattle.std.proofs.lemmas.List.Sums.{AllPass-from_list_all}
+use Rattle.bag_check.proofs.NamedManifests.{all_weaker}
+use Rattle.bag_check.proofs.NamedLaws.{needs_no_digest}
 use Rattle.fed_types.specs.declared.bag_id.BagId.{BagId}
 use Rattle.fed_types.specs.Faults.{IsOrFault}
 use Rattle.bag_tree.specs.Facts.{TreeFacts}
@@ -16,30 +23,18 @@ use Rattle.bag_check.proofs.ValidLaws.{valid_checked, checked_valid, valid_fault
 
 -- ---- what is found in a list
 
--- what is found, or the last one, if it passes the test
-abbrev or_last : Option BagFault → (passes : Bool) → BagFault → Option BagFault
-or_last None passes last = cond passes (Some last) None
-or_last (Some fault) passes last = Some fault
-
-find_last : (p : BagFault → Bool) (faults : List BagFault) (last : BagFault)
-    → find p (faults ++ last ∷ []) ≡ or_last (find p faults) (p last) last
-find_last p [] last = refl
-find_last p (fault ∷ faults) last = go (p fault) (find_last p faults last)
-  where
-    go : (b : Bool) → find p (faults ++ last ∷ []) ≡ or_last (find p faults) (p last) last
-        → cond b (Some fault) (find p (faults ++ last ∷ []))
-        ≡ or_last (cond b (Some fault) (find p faults)) (p last) last
-    go true rest = refl
-    go false rest = rest
-
 find_one : (P : BagFault → Type 0) (p : BagFault → Bool) (faults : List BagFault)
     → AllByRecursion P faults → IfSome (find p faults) P
 find_one P p [] all = tt
-find_one P p (fault ∷ faults) (first, others) = go (p fault) (find_one P p faults others)
-  where
-    go : (b : Bool) → IfSome (find p faults) P → IfSome (cond b (Some fault) (find p faults)) P
-    go true rest = first
-    go false rest = rest
+find_one P p (fault ∷ faults) (first, others) =
+    cond_both (p fault) (Some fault) (find p faults) (λ found. IfSome found P) (λ _. first)
+    (λ _. find_one P p faults others)
+
+-- no gap needs a digest
+pub gaps_need_none : AllByRecursion (λ fault. needs_no_digest fault ≡ true) gaps
+gaps_need_none =
+    recursion_from_All (λ fault. needs_no_digest fault ≡ true) gaps
+    (AllPass-from_list_all needs_no_digest gaps refl)
 
 -- answers of one fault
 fault_is : (f g : BagFault) → ◌≡◌ {A = Result BagId BagFault} (Err f) (Err g) → f ≡ g
@@ -47,44 +42,44 @@ fault_is f g e = cc e
 
 -- ---- the first fault, from the first gap and whether a digest is wrong
 
+-- a gap, or a wrong digest where there is none
+abbrev pub or_wrong : Option BagFault → Bool → Option BagFault
+or_wrong gap wrong = option_or gap (cond wrong (Some WrongDigest) None)
+
 module _ (facts : TreeFacts) where
-  check_is : check_of facts
-      ≡ answer facts (or_last (first_gap facts) (holds WrongDigest facts) WrongDigest)
+  pub first_is : first_fault facts ≡ or_wrong (first_gap facts) (holds WrongDigest facts)
+  first_is = find-append (λ fault. holds fault facts) gaps (WrongDigest ∷ [])
+
+  check_is : check_of facts ≡ answer facts (or_wrong (first_gap facts) (holds WrongDigest facts))
   unfolding check_of
-  check_is = ap (answer facts) (find_last (λ fault. holds fault facts) gaps WrongDigest)
+  check_is = ap (answer facts) first_is
 
   -- no gap is a wrong digest
   gap_stays : IfSome (first_gap facts) (λ fault. despite facts fault ≡ Err fault)
   gap_stays =
-      find_one (λ fault. despite facts fault ≡ Err fault) (λ fault. holds fault facts) gaps (
-        refl,
-        (
-          refl,
-          (
-            refl,
-            (
-              refl,
-              (refl, (refl, (refl, (refl, (refl, (refl, (refl, (refl, (refl, tt))))))))),
-            ),
-          ),
-        ),
-      )
+      find_one (λ fault. despite facts fault ≡ Err fault) (λ fault. holds fault facts) gaps
+      (all_weaker (λ fault. needs_no_digest fault ≡ true) (λ fault. despite facts fault ≡ Err fault)
+      stays gaps gaps_need_none)
+    where
+      stays : (fault : BagFault) → needs_no_digest fault ≡ true → despite facts fault ≡ Err fault
+      stays WrongDigest other = absurd (cc other)
+      stays fault other = refl
 
   -- ---- what a check of completeness answers, from what a check answers
 
+  complete_too : (bag : BagId) → Ok bag ≡ check_of facts → Ok bag ≡ complete_of facts
+  unfolding complete_of
+  complete_too bag e = go (first_gap facts) (holds WrongDigest facts) (e ∙ check_is)
+    where
+      go : (gap : Option BagFault) (wrong : Bool) → Ok bag ≡ answer facts (or_wrong gap wrong)
+          → Ok bag ≡ answer facts gap
+      go None false e = e
+      go _ _ e = absurd (cc e)
+
   pub complete_valid_too : (bag : BagId) → IsOrFault Memory (Ok bag) (check_of facts)
       → IsOrFault Memory (Ok bag) (complete_of facts)
-  unfolding complete_of
   complete_valid_too bag (inr e) = absurd (cc e)
-  complete_valid_too bag (inl e) =
-      go (first_gap facts) (holds WrongDigest facts) (e ∙ check_is)
-    where
-      go : (gap : Option BagFault) (wrong : Bool)
-          → Ok bag ≡ answer facts (or_last gap wrong WrongDigest)
-          → IsOrFault Memory (Ok bag) (answer facts gap)
-      go None false e = inl e
-      go None true e = absurd (cc e)
-      go (Some fault) wrong e = absurd (cc e)
+  complete_valid_too bag (inl e) = inl (complete_too bag e)
 
   pub complete_despite : (fault : BagFault) (result : Result BagId BagFault)
       → IsOrFault {X = BagId} Memory (Err fault) (check_of facts)
@@ -92,13 +87,14 @@ module _ (facts : TreeFacts) where
       → IsOrFault Memory result (complete_of facts)
   unfolding complete_of
   complete_despite fault result checked (inr e) = inr e
-  complete_despite fault result (inr m) (inl e) = inr (e ∙ ap (despite facts) (fault_is fault Memory m))
+  complete_despite fault result (inr m) (inl e) =
+      inr (e ∙ ap (despite facts) (fault_is fault Memory m))
   complete_despite fault result (inl refused) (inl e) =
       go (first_gap facts) (holds WrongDigest facts) gap_stays (refused ∙ check_is)
     where
       go : (gap : Option BagFault) (wrong : Bool)
           → IfSome gap (λ f. despite facts f ≡ Err f)
-          → Err fault ≡ answer facts (or_last gap wrong WrongDigest)
+          → Err fault ≡ answer facts (or_wrong gap wrong)
           → IsOrFault Memory result (answer facts gap)
       go None false stays is = absurd (cc is)
       go None true stays is = inl (e ∙ ap (despite facts) (fault_is fault WrongDigest is))
@@ -108,17 +104,10 @@ module _ (facts : TreeFacts) where
 
   pub valid_complete : IsValid facts
       → (complete_of facts ≡ Ok (identity_of facts)) × (holds WrongDigest facts ≡ false)
-  unfolding complete_of
   valid_complete valid = (
-    go (first_gap facts) (holds WrongDigest facts) (sym check_is ∙ valid_checked facts valid),
+    sym (complete_too (identity_of facts) (sym (valid_checked facts valid))),
     valid_faultless facts valid WrongDigest,
   )
-    where
-      go : (gap : Option BagFault) (wrong : Bool)
-          → answer facts (or_last gap wrong WrongDigest) ≡ Ok (identity_of facts)
-          → answer facts gap ≡ Ok (identity_of facts)
-      go None wrong e = refl
-      go (Some fault) wrong e = absurd (cc e)
 
   pub complete_valid : complete_of facts ≡ Ok (identity_of facts)
       → holds WrongDigest facts ≡ false → IsValid facts
@@ -128,7 +117,7 @@ module _ (facts : TreeFacts) where
       (check_is ∙ go (first_gap facts) (holds WrongDigest facts) complete right)
     where
       go : (gap : Option BagFault) (wrong : Bool) → answer facts gap ≡ Ok (identity_of facts)
-          → wrong ≡ false → answer facts (or_last gap wrong WrongDigest) ≡ Ok (identity_of facts)
+          → wrong ≡ false → answer facts (or_wrong gap wrong) ≡ Ok (identity_of facts)
       go None false e right = refl
       go None true e right = absurd (cc right)
       go (Some fault) wrong e right = absurd (cc e)

@@ -1,10 +1,11 @@
 -- Entries that are as many as the payload's files.
-use Rattle.std.proofs.Common.{◌≡◌, ℕ, ◌<◌, ◌≤◌, Bool, true, false, ◌||◌, not}
-use Rattle.std.proofs.Common.{List, [], ◌∷◌, map, length, get_or, sym, ap, subst, ◌∙◌, refl, arith}
+use Rattle.std.proofs.Common.{◌≡◌, ℕ, ◌≤◌, Bool, true, false, not, List, [], ◌∷◌, map, length}
+use Rattle.std.proofs.Common.{get_or, sym, ◌∙◌, refl, arith, inl, inr}
 use Rattle.std.specs.List.{list_any, filter, IsDistinct, AllByRecursion}
 use Rattle.std.specs.Set.{is_member}
 use Rattle.std.specs.Str.{bytes_eq}
-use Rattle.std.proofs.lemmas.Bool.{or_parts, and_parts, false_from_ne_true}
+use Rattle.std.proofs.lemmas.Bool.{or_parts, and_parts, false_from_ne_true, not-true, not-false}
+use Rattle.std.proofs.lemmas.Bool.{cases_Bool}
 use Rattle.std.proofs.lemmas.List.Folds.{list_any_at, list_any_none}
 use Rattle.std.proofs.lemmas.Cmp.{nat_list_eq_equiv}
 use Rattle.std.proofs.lemmas.List.{length-map}
@@ -28,17 +29,6 @@ payload_paths files = map (λ (f : FileFact). f.path) (filter in_payload files)
 abbrev pub paths : List ListedFile → List (List ℕ)
 paths entries = map (λ (e : ListedFile). e.path) entries
 
-unfalse : (b : Bool) → not b ≡ true → b ≡ false
-unfalse true h = sym h
-unfalse false h = refl
-
-untrue : (b : Bool) → not b ≡ false → b ≡ true
-untrue true h = refl
-untrue false h = sym h
-
-same_text : (p q : List ℕ) → bytes_eq p q ≡ true → p ≡ q
-same_text p q h = (bytes_eq-Decides p q).0 h
-
 -- a path that isn't listed is none of the paths
 apart : (p : List ℕ) (entries : List ListedFile) → is_listed p entries ≡ false
     → AllByRecursion (λ q. bytes_eq p q ≡ false) (paths entries)
@@ -60,29 +50,24 @@ member_listed : (q : List ℕ) (entries : List ListedFile)
     → is_member bytes_eq (paths entries) q ≡ is_listed q entries
 member_listed q [] = refl
 member_listed q (entry ∷ entries) =
-    ap (λ t. t || is_member bytes_eq (paths entries) q) (bytes_eq-sym q entry.path)
-    ∙ ap (λ t. bytes_eq entry.path q || t) (member_listed q entries)
+    rw (bytes_eq-sym q entry.path, member_listed q entries) refl
 
 -- a file of a payload's path is one of the payload's
 in_files : (q : List ℕ) (files : List FileFact) → is_payload q ≡ true
     → list_any (λ (f : FileFact). bytes_eq f.path q) files ≡ true
     → is_member bytes_eq (payload_paths files) q ≡ true
 in_files q [] payload h = cc
-in_files q (file ∷ files) payload h =
-    go (in_files q files payload) (in_payload file) refl (bytes_eq file.path q) refl
-  where
-    go : (list_any (λ (f : FileFact). bytes_eq f.path q) files ≡ true
-        → is_member bytes_eq (payload_paths files) q ≡ true)
-        → (inside : Bool) → in_payload file ≡ inside → (here : Bool) → bytes_eq file.path q ≡ here
-        → is_member bytes_eq (payload_paths (file ∷ files)) q ≡ true
-    go later true inside true here = rw (inside, bytes_eq-sym q file.path, here) refl
-    go later true inside false here =
-        rw (inside, bytes_eq-sym q file.path, here) (later (rw here at h))
-    go later false inside true here =
-        let other : false ≡ true =
-        sym inside ∙ (ap is_payload (same_text file.path q here) ∙ payload) in
-        absurd (cc other)
-    go later false inside false here = rw inside (later (rw here at h))
+in_files q (file ∷ files) payload h = elim (cases_Bool (bytes_eq file.path q)) [
+  | inl here ↦
+      let inside : in_payload file ≡ true = rw ((bytes_eq-Decides file.path q).0 here) payload in
+      rw (inside, bytes_eq-sym q file.path, here) refl
+  | inr other ↦
+      let later = in_files q files payload (rw other at h) in
+      elim (cases_Bool (in_payload file)) [
+        | inl inside ↦ rw (inside, bytes_eq-sym q file.path, other) later
+        | inr outside ↦ rw outside later
+      ]
+]
 
 -- what is listed is a payload's file that is there
 found_listed : (q : List ℕ) (files : List FileFact) (entries : List ListedFile)
@@ -92,22 +77,16 @@ found_listed q files [] placed there listed = cc
 found_listed q files (entry ∷ entries) placed there listed =
     let astray = or_parts (is_astray Payload entry) (list_any (is_astray Payload) entries) placed in
     let missing = or_parts (is_missing files entry) (list_any (is_missing files) entries) there in
-    go (found_listed q files entries astray.1 missing.1) astray.0 missing.0
-    (bytes_eq entry.path q) refl
-  where
-    go : (is_listed q entries ≡ true → is_member bytes_eq (payload_paths files) q ≡ true)
-        → is_astray Payload entry ≡ false → is_missing files entry ≡ false
-        → (here : Bool) → bytes_eq entry.path q ≡ here
-        → is_member bytes_eq (payload_paths files) q ≡ true
-    go later placed_here is_there true here =
-        subst (λ p. is_member bytes_eq (payload_paths files) p ≡ true)
-        (same_text entry.path q here)
-        (in_files entry.path files
-        (untrue (is_payload entry.path)
-        (or_parts (is_unsafe entry.path) (not (is_payload entry.path)) placed_here).1)
-        (sym (is_some-find (λ (f : FileFact). bytes_eq f.path entry.path) files)
-        ∙ untrue (has_file entry.path files) is_there))
-    go later placed_here is_there false here = later (rw here at listed)
+    elim (cases_Bool (bytes_eq entry.path q)) [
+      | inl here ↦
+          rw (← (bytes_eq-Decides entry.path q).0 here)
+          (in_files entry.path files
+          (not-false (is_payload entry.path)
+          (or_parts (is_unsafe entry.path) (not (is_payload entry.path)) astray.0).1)
+          (sym (is_some-find (λ (f : FileFact). bytes_eq f.path entry.path) files)
+          ∙ not-false (has_file entry.path files) missing.0))
+      | inr other ↦ found_listed q files entries astray.1 missing.1 (rw other at listed)
+    ]
 
 module _ (entries : List ListedFile) (files : List FileFact)
     (placed : list_any (is_astray Payload) entries ≡ false) (once : repeats entries ≡ false)
@@ -130,33 +109,25 @@ module _ (entries : List ListedFile) (files : List FileFact)
         length-map (filter in_payload files) (λ (f : FileFact). f.path),
       ))
     where
-      go : (q : List ℕ) (same : Bool) → bytes_eq q p ≡ same
-          → (same || is_member bytes_eq (paths entries) q) ≡ true
-          → is_member bytes_eq (payload_paths files) q ≡ true
-      go q true same h =
-          subst (λ r. is_member bytes_eq (payload_paths files) r ≡ true)
-          (sym (same_text q p same)) (in_files p files payload here)
-      go q false same h =
-          found_listed q files entries placed there (sym (member_listed q entries) ∙ h)
-
       each : (q : List ℕ) → is_member bytes_eq (p ∷ paths entries) q ≡ true
           → is_member bytes_eq (payload_paths files) q ≡ true
-      each q h = go q (bytes_eq q p) refl h
+      each q h = elim (cases_Bool (bytes_eq q p)) [
+        | inl same ↦ rw ((bytes_eq-Decides q p).0 same) (in_files p files payload here)
+        | inr other ↦
+            found_listed q files entries placed there
+            (sym (member_listed q entries) ∙ rw other at h)
+      ]
 
   -- no file of the payload is left out
   pub none_unlisted : list_any (is_unlisted entries) files ≡ false
   none_unlisted =
       list_any_none (is_unlisted entries) files
-      (λ k d within. false_from_ne_true (is_unlisted entries (get_or files k d))
-      (λ unlisted. left_out k d within unlisted))
-    where
-      left_out : (k : ℕ) (d : FileFact) → k < length files
-          → is_unlisted entries (get_or files k d) ≡ true → ⊥
-      left_out k d within unlisted =
-          let file : FileFact = get_or files k d in
-          let both = and_parts (is_payload file.path)
-          (not (is_listed file.path entries)) unlisted in
-          is_listed_too file.path both.0
-          (list_any_at (λ (f : FileFact). bytes_eq f.path file.path) files k d within
-          ((bytes_eq-Decides file.path file.path).1 refl))
-          (unfalse (is_listed file.path entries) both.1)
+      (λ k d within.
+      let path : List ℕ = (get_or files k d).path in
+      false_from_ne_true (is_unlisted entries (get_or files k d))
+      (λ unlisted.
+      let both = and_parts (is_payload path) (not (is_listed path entries)) unlisted in
+      is_listed_too path both.0
+      (list_any_at (λ (f : FileFact). bytes_eq f.path path) files k d within
+      ((bytes_eq-Decides path path).1 refl))
+      (not-true (is_listed path entries) both.1)))

@@ -1,6 +1,6 @@
 -- Maps and sets whose keys are texts, one key on.
 use Rattle.std.proofs.Common.{◌≡◌, ℕ, ◌+◌, ◌<◌, Bool, true, false, ◌||◌, cond, List, [], ◌∷◌, ◌++◌}
-use Rattle.std.proofs.Common.{length, take, get_or, Option, Some, None, refl, sym, ap, subst, ◌∙◌}
+use Rattle.std.proofs.Common.{length, take, get_or, Option, Some, None, refl, sym, ap, ◌∙◌}
 use Rattle.std.specs.Borrow.{Bor}
 use Rattle.std.specs.BTreeMap as tree
 use Rattle.std.specs.BTreeSet as sorted
@@ -10,6 +10,7 @@ use Rattle.std.specs.Cmp.Lexicographic.{slice_cmp}
 use Rattle.std.specs.Ordering.{nat_cmp, is_eq}
 use Rattle.std.specs.Option.{option_copied, option_or}
 use Rattle.std.specs.Str.{bytes_eq}
+use Rattle.std.proofs.lemmas.Bool.{cond_both}
 use Rattle.std.proofs.lemmas.Map.Text.{is_eq-slice_cmp, btree_map_updates_str}
 use Rattle.std.proofs.lemmas.Slice.Eq.{bytes_eq-Decides}
 use Rattle.std.proofs.lemmas.List.{take_more}
@@ -29,24 +30,27 @@ pub has_text-inserted : (w : Bor (List ℕ)) (s n : BTreeSet (Bor (List ℕ)))
     → sorted.UpdatesBy (λ x y. slice_cmp nat_cmp x.now y.now)
     (λ k. slice_cmp nat_cmp w.now k.now) s n true
     → (q : List ℕ) → has_text q n ≡ (bytes_eq w.now q || has_text q s)
-has_text-inserted w s n h q = h.0 (record { ref_ptr = (0, 0); now = q })
-    ∙ go (is_eq (slice_cmp nat_cmp w.now q)) (bytes_eq w.now q) (is_eq-slice_cmp w.now q)
-  where
-    go : (a b : Bool) → a ≡ b → cond a true (has_text q s) ≡ (b || has_text q s)
-    go true true e = refl
-    go false false e = refl
-    go true false e = cc
-    go false true e = cc
+has_text-inserted w s n h q =
+    h.0 (record { ref_ptr = (0, 0); now = q })
+    ∙ cond_both (is_eq (slice_cmp nat_cmp w.now q)) true (has_text q s)
+    (λ t. t ≡ (bytes_eq w.now q || has_text q s))
+    (λ is. rw (sym (is_eq-slice_cmp w.now q) ∙ is) refl)
+    (λ isnt. rw (sym (is_eq-slice_cmp w.now q) ∙ isnt) refl)
 
 or_none : (o : Option FileFact) → option_or o None ≡ o
 or_none None = refl
 or_none (Some file) = refl
 
+-- the call put the file in the place of this path
+abbrev Puts : List ℕ → Bor FileFact → (m n : BTreeMap (Bor (List ℕ)) (Bor FileFact)) → Type 0
+Puts path file m n =
+    tree.UpdatesBy (λ x y. slice_cmp nat_cmp x.now y.now) (λ k. slice_cmp nat_cmp path k.now) m n
+    (Some file)
+
 -- a file that was put in at a path where there was none
 pub at_text-put : (path : List ℕ) (file : Bor FileFact)
     (m n : BTreeMap (Bor (List ℕ)) (Bor FileFact))
-    → tree.UpdatesBy (λ x y. slice_cmp nat_cmp x.now y.now) (λ k. slice_cmp nat_cmp path k.now) m n
-    (Some file)
+    → Puts path file m n
     → tree.get_by (λ k. slice_cmp nat_cmp path k.now) m ≡ None
     → (q : List ℕ) → at_text q n ≡ option_or (at_text q m)
     (cond (bytes_eq path q) (Some file.now) None)
@@ -62,10 +66,7 @@ at_text-put path file m n h absent q =
 -- a file that took the place of the first one of its path, which was then put back
 pub at_text-put_back : (path : List ℕ) (file first : Bor FileFact)
     (m n r : BTreeMap (Bor (List ℕ)) (Bor FileFact))
-    → tree.UpdatesBy (λ x y. slice_cmp nat_cmp x.now y.now) (λ k. slice_cmp nat_cmp path k.now) m n
-    (Some file)
-    → tree.UpdatesBy (λ x y. slice_cmp nat_cmp x.now y.now) (λ k. slice_cmp nat_cmp path k.now) n r
-    (Some first)
+    → Puts path file m n → Puts path first n r
     → Some first ≡ tree.get_by (λ k. slice_cmp nat_cmp path k.now) m
     → (q : List ℕ) → at_text q r ≡ option_or (at_text q m)
     (cond (bytes_eq path q) (Some file.now) None)
@@ -75,7 +76,7 @@ at_text-put_back path file first m n r put back was q =
   where
     some_or : (o : Option (Bor FileFact)) (other : Option FileFact) → Some first ≡ o
         → Some first.now ≡ option_or (option_copied o) other
-    some_or o other h = subst (λ v. Some first.now ≡ option_or (option_copied v) other) h refl
+    some_or o other h = rw (← h) refl
 
     go : (b : Bool) → bytes_eq path q ≡ b
         → option_copied (cond b (Some first) (tree.get_by (λ k. slice_cmp nat_cmp q k.now) n))

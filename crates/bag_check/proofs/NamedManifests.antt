@@ -1,20 +1,20 @@
 -- The manifests of a tree are of algorithms that its paths name.
-use Rattle.std.proofs.Common.{◌≡◌, ℕ, Bool, true, false, ◌||◌, cond, List, [], ◌∷◌, ◌++◌, map}
-use Rattle.std.proofs.Common.{Option, Some, None, refl, sym, ap}
+use Rattle.std.proofs.Common.{◌≡◌, ℕ, true, List, [], ◌∷◌, ◌++◌, map, Option, Some, None, refl, sym}
+use Rattle.std.proofs.Common.{ap, inl, inr}
 use Rattle.std.specs.Prelude.{is_some, unwrap_or}
 use Rattle.std.specs.List.{list_any, flat_map, AllByRecursion}
 use Rattle.std.specs.Option.{option_map}
 use Rattle.std.specs.Str.{bytes_eq}
-use Rattle.std.proofs.lemmas.Bool.{or_left, or_right, true≢false}
+use Rattle.std.proofs.Math.Bool.{or-true}
+use Rattle.std.proofs.lemmas.Bool.{cases_Bool, true≢false}
 use Rattle.bag_text.specs.declared.algorithm.Algorithm.{Algorithm}
-use Rattle.bag_text.specs.declared.algorithm.Algorithm.TheVariants.{Md5, Sha1, Sha256, Sha512}
+use Rattle.bag_text.specs.declared.algorithm.Algorithm.TheVariants.{Md5}
 use Rattle.bag_tree.specs.Algorithms.{has_algorithm}
 use Rattle.bag_tree.specs.Facts.{FileFact}
 use Rattle.bag_check.specs.declared.manifests.Kind.{Kind}
 use Rattle.bag_check.specs.declared.manifests.Kind.TheVariants.{Payload, Tag}
-use Rattle.bag_check.specs.Manifests.{Manifest, file_at, has_file, kinds, algorithms}
-use Rattle.bag_check.specs.Manifests.{manifest_name, manifest_in, manifest_at, manifests_of_kind}
-use Rattle.bag_check.specs.Manifests.{manifests_of}
+use Rattle.bag_check.specs.Manifests.{Manifest, file_at, has_file, kinds, algorithms, manifest_name}
+use Rattle.bag_check.specs.Manifests.{manifest_in, manifest_at, manifests_of_kind, manifests_of}
 use Rattle.bag_check.specs.Named.{asks, named_of}
 
 -- ---- a property of all elements
@@ -50,25 +50,8 @@ paths_of files = map (λ file. file.path) files
 asks_by_name : (kind : Kind) (algorithm : Algorithm) (path : List ℕ)
     → bytes_eq path (manifest_name kind algorithm) ≡ true → asks algorithm path ≡ true
 unfolding asks
-asks_by_name Payload algorithm path h =
-    or_left (bytes_eq path (manifest_name Payload algorithm))
-    (bytes_eq path (manifest_name Tag algorithm) || false) h
-asks_by_name Tag algorithm path h =
-    or_right (bytes_eq path (manifest_name Payload algorithm))
-    (bytes_eq path (manifest_name Tag algorithm) || false)
-    (or_left (bytes_eq path (manifest_name Tag algorithm)) false h)
-
-asked_first : (kind : Kind) (algorithm : Algorithm) (file : FileFact) (files : List FileFact)
-    → (has_file (manifest_name kind algorithm) files ≡ true
-    → list_any (asks algorithm) (paths_of files) ≡ true)
-    → (same : Bool) → bytes_eq file.path (manifest_name kind algorithm) ≡ same
-    → is_some (cond same (Some file) (file_at (manifest_name kind algorithm) files)) ≡ true
-    → (asks algorithm file.path || list_any (asks algorithm) (paths_of files)) ≡ true
-asked_first kind algorithm file files others true is h =
-    or_left (asks algorithm file.path) (list_any (asks algorithm) (paths_of files))
-    (asks_by_name kind algorithm file.path is)
-asked_first kind algorithm file files others false is h =
-    or_right (asks algorithm file.path) (list_any (asks algorithm) (paths_of files)) (others h)
+asks_by_name Payload algorithm path h = rw h refl
+asks_by_name Tag algorithm path h = rw h (or-true (bytes_eq path (manifest_name Payload algorithm)))
 
 -- where the manifest is there, its name asks
 asked : (kind : Kind) (algorithm : Algorithm) (files : List FileFact)
@@ -76,15 +59,16 @@ asked : (kind : Kind) (algorithm : Algorithm) (files : List FileFact)
     → list_any (asks algorithm) (paths_of files) ≡ true
 asked kind algorithm [] h = absurd (true≢false (sym h))
 asked kind algorithm (file ∷ files) h =
-    asked_first kind algorithm file files (asked kind algorithm files)
-    (bytes_eq file.path (manifest_name kind algorithm)) refl h
+    elim (cases_Bool (bytes_eq file.path (manifest_name kind algorithm))) [
+      | inl here ↦ rw (asks_by_name kind algorithm file.path here) refl
+      | inr other ↦
+          rw (asked kind algorithm files (rw other at h)) (or-true (asks algorithm file.path))
+    ]
 
 named : (algorithm : Algorithm) (paths : List (List ℕ))
     → list_any (asks algorithm) paths ≡ true → has_algorithm algorithm (named_of paths) ≡ true
 named Md5 paths h = h
-named Sha1 paths h = h
-named Sha256 paths h = h
-named Sha512 paths h = h
+named _ paths h = h
 
 -- ---- the manifests
 

@@ -1,7 +1,7 @@
 -- Reading manifests, one manifest on.
 use Rattle.std.proofs.Common.{◌≡◌, ℕ, ◌+◌, ◌<◌, ◌||◌, List, [], ◌∷◌, ◌++◌, length, take, drop}
-use Rattle.std.proofs.Common.{get_or, Some, None, Result, Ok, Err, refl, sym, ap, ◌∙◌, append_assoc}
-use Rattle.std.proofs.Common.{append-nil, subst}
+use Rattle.std.proofs.Common.{get_or, Some, None, Result, Ok, Err, refl, sym, ap, append_assoc}
+use Rattle.std.proofs.Common.{append-nil}
 use Rattle.std.specs.List.{flat_map}
 use Rattle.std.specs.Result.{IsErrAnd, IfErr}
 use Rattle.std.proofs.Math.Bool.{or-true}
@@ -17,8 +17,7 @@ use Rattle.bag_check.specs.declared.fault.BagFault.TheVariants.{MalformedLine, M
 use Rattle.bag_check.specs.declared.manifests.Kind.{Kind}
 use Rattle.bag_check.specs.declared.manifests.Kind.TheVariants.{Payload, Tag}
 use Rattle.bag_check.specs.Manifests.{Manifest, text_at, manifest_name, manifest_at}
-use Rattle.bag_check.specs.Manifests.{manifests_of_kind, manifests_of, algorithms, is_malformed}
-use Rattle.bag_check.specs.Manifests.{entries}
+use Rattle.bag_check.specs.Manifests.{manifests_of_kind, manifests_of, is_malformed, entries}
 use Rattle.bag_check.specs.inner.Order.{Listed, listed_in, listings, some_malformed, Reads}
 use Rattle.bag_check.specs.inner.Order.{FailsToRead}
 
@@ -39,25 +38,22 @@ reads_none before = (refl, sym (append-nil before))
 pub reads_both : (a b : List Manifest) (before between after : List Listed) → Reads a before between
     → Reads b between after → Reads (a ++ b) before after
 reads_both a b before between after (sound, found) (sound_too, more) = (
-  some_malformed-append a b ∙ (ap (λ t. t || some_malformed b) sound ∙ sound_too),
-  more
-      ∙ (ap (λ x. x ++ listings b) found
-      ∙ (append_assoc before (listings a) (listings b)
-      ∙ ap (λ x. before ++ x) (sym (listings-append a b)))),
+  rw (some_malformed-append a b, sound) sound_too,
+  rw (more, found, listings-append a b) (append_assoc before (listings a) (listings b)),
 )
 
 -- reading fails where reading a part fails
 pub fails_first : (a b : List Manifest) (fault : BagFault) → FailsToRead a fault
     → FailsToRead (a ++ b) fault
 fails_first a b Memory h = tt
-fails_first a b MalformedLine h = some_malformed-append a b ∙ ap (λ t. t || some_malformed b) h
+fails_first a b MalformedLine h = rw (some_malformed-append a b, h) refl
 fails_first a b fault h = absurd h
 
 pub fails_second : (a b : List Manifest) (fault : BagFault) → FailsToRead b fault
     → FailsToRead (a ++ b) fault
 fails_second a b Memory h = tt
 fails_second a b MalformedLine h =
-    some_malformed-append a b ∙ (ap (λ t. some_malformed a || t) h ∙ or-true (some_malformed a))
+    rw (some_malformed-append a b, h) (or-true (some_malformed a))
 fails_second a b fault h = absurd h
 
 -- ---- the algorithms of one kind
@@ -72,40 +68,37 @@ module _ (kind : Kind) (files : List FileFact) (all : List Algorithm) (place : �
 
   next : manifests_by kind files (take (place + 1) all)
       ≡ manifests_by kind files (take place all) ++ manifest_at kind algorithm files
-  next = ap (manifests_by kind files) (take_more all place other within)
-      ∙ (flat_map-append (λ (a : Algorithm). manifest_at kind a files) (take place all)
-      (algorithm ∷ [])
-      ∙ ap (λ x. manifests_by kind files (take place all) ++ x)
-      (append-nil (manifest_at kind algorithm files)))
+  next =
+      rw (
+        take_more all place other within,
+        flat_map-append (λ (a : Algorithm). manifest_at kind a files) (take place all)
+            (algorithm ∷ []),
+        append-nil (manifest_at kind algorithm files),
+      ) refl
 
   pub read_next : (before between after : List Listed)
       → Reads (manifests_by kind files (take place all)) before between
       → Reads (manifest_at kind algorithm files) between after
       → Reads (manifests_by kind files (take (place + 1) all)) before after
   read_next before between after so_far now =
-      let P : List Manifest → Type 0 = λ ms. Reads ms before after in
-      subst P (sym next) (reads_both (manifests_by kind files (take place all))
-      (manifest_at kind algorithm files) before between after so_far now)
+      rw next
+      (reads_both (manifests_by kind files (take place all)) (manifest_at kind algorithm files)
+      before between after so_far now)
 
   pub fails_here : (fault : BagFault) → FailsToRead (manifest_at kind algorithm files) fault
       → FailsToRead (manifests_by kind files all) fault
   fails_here fault h =
-      let P : List Manifest → Type 0 = λ ms. FailsToRead ms fault in
-      let Q : List Algorithm → Type 0 = λ some. FailsToRead (manifests_by kind files some) fault in
-      let upto : FailsToRead (manifests_by kind files (take (place + 1) all)) fault =
-      subst P (sym next) (fails_second (manifests_by kind files (take place all))
-      (manifest_at kind algorithm files) fault h) in
-      subst Q (take-append-drop (place + 1) all)
-      (subst P
-      (sym (flat_map-append (λ (a : Algorithm). manifest_at kind a files) (take (place + 1) all)
-      (drop (place + 1) all)))
-      (fails_first (manifests_by kind files (take (place + 1) all))
-      (manifests_by kind files (drop (place + 1) all)) fault upto))
-
-pub of_kind : (kind : Kind) (files : List FileFact)
-    → manifests_of_kind kind files ≡ manifests_by kind files algorithms
-unfolding manifests_of_kind
-of_kind kind files = refl
+      let now =
+      fails_second (manifests_by kind files (take place all)) (manifest_at kind algorithm files)
+      fault h in
+      rw (
+        ← take-append-drop (place + 1) all,
+        flat_map-append (λ (a : Algorithm). manifest_at kind a files) (take (place + 1) all)
+            (drop (place + 1) all),
+        next,
+      )
+      (fails_first (manifests_by kind files (take place all) ++ manifest_at kind algorithm files)
+      (manifests_by kind files (drop (place + 1) all)) fault now)
 
 pub of_both : (files : List FileFact)
     → manifests_of files ≡ manifests_of_kind Payload files ++ manifests_of_kind Tag files
@@ -113,32 +106,11 @@ unfolding manifests_of
 of_both files =
     ap (λ x. manifests_of_kind Payload files ++ x) (append-nil (manifests_of_kind Tag files))
 
-pub reads_kinds : (files : List FileFact) (empty between after : List Listed) → empty ≡ []
-    → Reads (manifests_of_kind Payload files) empty between
-    → Reads (manifests_of_kind Tag files) between after
-    → Reads (manifests_of files) [] after
-reads_kinds files empty between after none payload tags =
-    rw of_both
-    (reads_both (manifests_of_kind Payload files) (manifests_of_kind Tag files) [] between after
-    (rw none at payload) tags)
-
-pub fails_payload : (files : List FileFact) (fault : BagFault)
-    → FailsToRead (manifests_of_kind Payload files) fault → FailsToRead (manifests_of files) fault
-fails_payload files fault h =
-    rw of_both
-    (fails_first (manifests_of_kind Payload files) (manifests_of_kind Tag files) fault h)
-
-pub fails_tag : (files : List FileFact) (fault : BagFault)
-    → FailsToRead (manifests_of_kind Tag files) fault → FailsToRead (manifests_of files) fault
-fails_tag files fault h =
-    rw of_both
-    (fails_second (manifests_of_kind Payload files) (manifests_of_kind Tag files) fault h)
-
 -- an error that a `?` hands on
 pub handed_on : {X : Type 0} (answer : Result X BagFault) (fault : BagFault) (P : BagFault → Type 0)
     → IsErrAnd answer (λ other. other ≡ fault) → P fault → IfErr answer P
 handed_on (Ok x) fault P is h = absurd is
-handed_on (Err other) fault P is h = subst P (sym is) h
+handed_on (Err other) fault P is h = rw is h
 
 -- ---- one manifest
 

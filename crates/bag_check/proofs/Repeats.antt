@@ -1,5 +1,5 @@
 -- A path that is listed twice, one entry on.
-use Rattle.std.proofs.Common.{◌≡◌, ℕ, ◌+◌, ◌<◌, Bool, true, false, ◌||◌, not, List, [], ◌∷◌, ◌++◌}
+use Rattle.std.proofs.Common.{◌≡◌, ℕ, ◌+◌, ◌<◌, Bool, true, false, ◌||◌, List, [], ◌∷◌, ◌++◌}
 use Rattle.std.proofs.Common.{length, take, drop, get_or, refl, sym, ap, ◌∙◌}
 use Rattle.std.specs.List.{list_any}
 use Rattle.std.specs.Str.{bytes_eq}
@@ -21,17 +21,17 @@ bytes_eq-sym p q =
 pub listed-more : (q : List ℕ) (files : List ListedFile) (file : ListedFile)
     → is_listed q (files ++ file ∷ []) ≡ (bytes_eq file.path q || is_listed q files)
 listed-more q files file =
-    list_any-append (λ (f : ListedFile). bytes_eq f.path q) files (file ∷ [])
-    ∙ (ap (λ t. is_listed q files || t) (or-false (bytes_eq file.path q))
-    ∙ or_comm (is_listed q files) (bytes_eq file.path q))
+    rw (
+      list_any-append (λ (f : ListedFile). bytes_eq f.path q) files (file ∷ []),
+      or-false (bytes_eq file.path q),
+    ) (or_comm (is_listed q files) (bytes_eq file.path q))
 
 mixed : (a s c d : Bool) → ((s || a) || (c || d)) ≡ ((a || c) || (s || d))
 mixed true true c d = refl
 mixed true false c d = refl
 mixed false true true d = refl
 mixed false true false d = refl
-mixed false false true d = refl
-mixed false false false d = refl
+mixed false false c d = refl
 
 -- one entry more
 pub repeats-snoc : (entries : List ListedFile) (entry : ListedFile)
@@ -69,18 +69,15 @@ module _ (entries : List ListedFile) (place : ℕ) (entry : ListedFile)
   pub repeat_found : is_listed entry.path (take place entries) ≡ true → true ≡ repeats entries
   repeat_found twice =
       let here : repeats (take (place + 1) entries) ≡ true =
-      ap repeats next ∙ (repeats-snoc (take place entries) entry
-      ∙ (ap (λ t. repeats (take place entries) || t) twice
-      ∙ or-true (repeats (take place entries)))) in
+      rw (next, repeats-snoc (take place entries) entry, twice)
+      (or-true (repeats (take place entries))) in
       sym (ap repeats (sym (take-append-drop (place + 1) entries))
       ∙ repeats-more (take (place + 1) entries) (drop (place + 1) entries) here)
 
   pub repeat_passed : repeats (take place entries) ≡ false
       → is_listed entry.path (take place entries) ≡ false
       → repeats (take (place + 1) entries) ≡ false
-  repeat_passed so_far once = ap repeats next
-      ∙ (repeats-snoc (take place entries) entry
-      ∙ (ap (λ t. t || is_listed entry.path (take place entries)) so_far ∙ once))
+  repeat_passed so_far once = rw (next, repeats-snoc (take place entries) entry, so_far) once
 
   pub listed_next : (q : List ℕ)
       → is_listed q (take (place + 1) entries)
@@ -92,11 +89,3 @@ pub same_any : {X : Type 0} (p q : X → Bool) → ((x : X) → p x ≡ q x) →
     → list_any p xs ≡ list_any q xs
 same_any p q same [] = refl
 same_any p q same (x ∷ xs) = rw (same x, same_any p q same xs) refl
-
-pub not_added : (added there : Bool) → added ≡ not there → added ≡ false → there ≡ true
-not_added added true e h = refl
-not_added added false e h = sym h ∙ e
-
-pub newly_added : (added there : Bool) → added ≡ not there → added ≡ true → there ≡ false
-newly_added added false e h = refl
-newly_added added true e h = sym h ∙ e

@@ -1,18 +1,23 @@
 -- Tests of lists, and the facts of sets that they decide.
-use Rattle.std.proofs.Common.{◌≡◌, ◌≢◌, ℕ, suc, Bool, true, false, ◌||◌, cond, List, [], ◌∷◌, map}
-use Rattle.std.proofs.Common.{get_or, Option, Some, None, refl, sym, ap, subst, ◌∙◌, arith}
+use Rattle.std.proofs.Common.{◌≡◌, ◌≢◌, ℕ, suc, Bool, true, false, ◌||◌, List, [], ◌∷◌, map, get_or}
+use Rattle.std.proofs.Common.{None, refl, sym, ap, ◌∙◌, arith, inl, inr}
 use Rattle.std.specs.Prelude.{All, AllPairs, Contains, Decides, is_some}
 use Rattle.std.specs.List.{list_any, find, flat_map, AllByRecursion}
 use Rattle.std.specs.Str.{bytes_eq}
-use Rattle.std.proofs.lemmas.Bool.{or_parts, or_from, true≢false, false_from_ne_true}
+use Rattle.std.proofs.lemmas.Bool.{or_parts, or_from, true≢false, false_from_ne_true, cases_Bool}
 use Rattle.std.proofs.lemmas.List.{get_or_default}
 use Rattle.std.proofs.lemmas.List.Elements.{All-nil, All-cons, All-tail, All-map, All-weaker}
+use Rattle.std.proofs.lemmas.List.Elements.{All-contains}
 use Rattle.std.proofs.lemmas.List.Folds.{Any-from_list_any, list_any_at, list_any_none}
 use Rattle.std.proofs.lemmas.List.Folds.{list_any-append}
 use Rattle.std.proofs.lemmas.List.Kept.{AllPairs-cons}
 use Rattle.std.proofs.lemmas.Slice.Eq.{bytes_eq-Decides}
 use Rattle.bag_text.specs.ListedFile.{ListedFile}
-use Rattle.bag_check.specs.Manifests.{is_listed}
+use Rattle.bag_text.specs.declared.algorithm.Algorithm.{Algorithm}
+use Rattle.bag_text.specs.declared.algorithm.Algorithm.TheVariants.{Md5, Sha1, Sha256, Sha512}
+use Rattle.bag_check.specs.declared.manifests.Kind.{Kind}
+use Rattle.bag_check.specs.declared.manifests.Kind.TheVariants.{Payload, Tag}
+use Rattle.bag_check.specs.Manifests.{is_listed, kinds, algorithms}
 use Rattle.bag_check.specs.Check.{repeats}
 
 any-map : {X Y : Type 0} (p : Y → Bool) (f : X → Y) (xs : List X)
@@ -58,8 +63,7 @@ any_contains E same xs q = (
 pub any_path : {X : Type 0} (path_of : X → List ℕ) (xs : List X) (q : List ℕ)
     → Decides (list_any (λ x. bytes_eq (path_of x) q) xs) (Contains (map path_of xs) q)
 any_path path_of xs q =
-    let P : Bool → Type 0 = λ t. Decides t (Contains (map path_of xs) q) in
-    subst P (any-map (λ p. bytes_eq p q) path_of xs)
+    rw (← any-map (λ p. bytes_eq p q) path_of xs)
     (any_contains bytes_eq bytes_eq-Decides (map path_of xs) q)
 
 -- the path of an element
@@ -71,31 +75,38 @@ path_at {X} path_of xs k d within =
     (list_any_at (λ y. bytes_eq (path_of y) (path_of x)) xs k d within
     ((bytes_eq-Decides (path_of x) (path_of x)).1 refl))
 
-is_some-cond : {X : Type 0} (b : Bool) (x : X) (rest : Option X) (any : Bool) → is_some rest ≡ any
-    → is_some (cond b (Some x) rest) ≡ (b || any)
-is_some-cond true x rest any h = refl
-is_some-cond false x rest any h = h
-
 pub is_some-find : {X : Type 0} (p : X → Bool) (xs : List X) → is_some (find p xs) ≡ list_any p xs
 is_some-find p [] = refl
-is_some-find p (x ∷ xs) = is_some-cond (p x) x (find p xs) (list_any p xs) (is_some-find p xs)
-
-none_first : {X : Type 0} (b : Bool) (x : X) (rest : Option X) → cond b (Some x) rest ≡ None
-    → (b ≡ false) × (rest ≡ None)
-none_first true x rest h = absurd (cc h)
-none_first false x rest h = (refl, h)
-
--- nothing is found exactly where each element fails
-pub find-none : {X : Type 0} (p : X → Bool) (xs : List X) → find p xs ≡ None
-    → AllByRecursion (λ x. p x ≡ false) xs
-find-none p [] h = tt
-find-none p (x ∷ xs) h = let first =
-    none_first (p x) x (find p xs) h in (first.0, find-none p xs first.1)
+is_some-find p (x ∷ xs) = elim (cases_Bool (p x)) [
+  | inl is ↦ rw is refl
+  | inr isnt ↦ rw isnt (is_some-find p xs)
+]
 
 pub none-find : {X : Type 0} (p : X → Bool) (xs : List X) → AllByRecursion (λ x. p x ≡ false) xs
     → find p xs ≡ None
 none-find p [] h = refl
 none-find p (x ∷ xs) h = rw (h.0) (none-find p xs h.1)
+
+-- ---- all kinds, and all algorithms
+
+pub in_kinds : (kind : Kind) → Contains kinds kind
+in_kinds Payload = (0, omega arith, refl)
+in_kinds Tag = (1, omega arith, refl)
+
+pub in_algorithms : (algorithm : Algorithm) → Contains algorithms algorithm
+in_algorithms Md5 = (0, omega arith, refl)
+in_algorithms Sha1 = (1, omega arith, refl)
+in_algorithms Sha256 = (2, omega arith, refl)
+in_algorithms Sha512 = (3, omega arith, refl)
+
+-- one that passes, and one that fails as all do
+pub any_one : {X : Type 0} (p : X → Bool) (xs : List X) (x : X) → Contains xs x → p x ≡ true
+    → list_any p xs ≡ true
+any_one p xs x c h = list_any_at p xs c.0 x c.1 (rw c.2 h)
+
+pub one_fails : {X : Type 0} (p : X → Bool) (xs : List X) (x : X) → Contains xs x
+    → list_any p xs ≡ false → p x ≡ false
+one_fails p xs x c h = All-contains (λ y. p y ≡ false) xs x (all_fail p xs h) c
 
 -- ---- paths that are listed once
 

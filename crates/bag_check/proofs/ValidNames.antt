@@ -1,22 +1,21 @@
 -- The names of manifests, by their tests.
-use Rattle.std.proofs.Common.{◌≡◌, ℕ, ◌<◌, Bool, true, false, ◌||◌, ◌==◌, cond, not, List, [], ◌∷◌}
-use Rattle.std.proofs.Common.{◌++◌, get_or, drop, length, refl, sym, ap, ◌∙◌, arith, append_assoc}
+use Rattle.std.proofs.Common.{◌≡◌, ℕ, ◌<◌, true, false, ◌==◌, not, List, [], ◌∷◌, ◌++◌, get_or}
+use Rattle.std.proofs.Common.{drop, length, refl, sym, ap, ◌∙◌, arith, append_assoc, inl, inr}
 use Rattle.std.specs.Prelude.{Decides, codes}
 use Rattle.std.specs.List.{list_any, onto_first, starts_with, ends_with}
 use Rattle.std.specs.Str.{bytes_eq}
 use Rattle.std.proofs.lemmas.Bool.{or_parts, and_parts, and_from, true≢false, false_from_ne_true}
-use Rattle.std.proofs.lemmas.Bool.{eqb-true, eq-eqb}
-use Rattle.std.proofs.lemmas.List.Folds.{Any-from_list_any, list_any_at}
+use Rattle.std.proofs.lemmas.Bool.{eqb-true, eq-eqb, cases_Bool, cond_both, not-true}
+use Rattle.std.proofs.lemmas.Bool.{not_from_false}
+use Rattle.std.proofs.lemmas.List.Folds.{Any-from_list_any}
 use Rattle.std.proofs.lemmas.Slice.Eq.{bytes_eq-Decides, starts_is, ends_is}
-use Rattle.bag_text.specs.declared.algorithm.Algorithm.{Algorithm}
-use Rattle.bag_text.specs.declared.algorithm.Algorithm.TheVariants.{Md5, Sha1, Sha256, Sha512}
 use Rattle.bag_tree.specs.Path.{slash, parts_of, is_text_named}
 use Rattle.bag_check.specs.declared.manifests.Kind.{Kind}
 use Rattle.bag_check.specs.declared.manifests.Kind.TheVariants.{Payload, Tag}
 use Rattle.bag_check.specs.Manifests.{algorithms, kinds, prefix_of, manifest_name, is_manifest}
 use Rattle.bag_check.specs.Manifests.{is_known_of_kind, is_known_manifest}
 use Rattle.bag_check.specs.Valid.{IsManifestName, IsReadManifestName}
-use Rattle.bag_check.proofs.Sets.{any_contains}
+use Rattle.bag_check.proofs.Sets.{any_contains, any_one, in_kinds, in_algorithms}
 
 same_byte : (a b : ℕ) → Decides (a == b) (a ≡ b)
 same_byte a b = (eqb-true a b, eq-eqb a b)
@@ -28,30 +27,22 @@ long : (parts : List (List ℕ)) (b : ℕ) → 0 < length parts → (0 < length 
 long [] b some = absurd (omega arith)
 long (part ∷ parts) b some = (omega arith, refl)
 
-is_slash : ℕ → Bool
-is_slash b = b == slash
-
 some_part : (path : List ℕ) → 0 < length (parts_of path)
 some_part [] = omega arith
-some_part (b ∷ path) = go (b == slash) (some_part path)
-  where
-    go : (t : Bool) → 0 < length (parts_of path)
-        → 0 < length (cond t ([] ∷ parts_of path) (onto_first b (parts_of path)))
-    go true some = omega arith
-    go false some = (long (parts_of path) b some).0
+some_part (b ∷ path) =
+    cond_both (b == slash) _ _ (λ (parts : List (List ℕ)). 0 < length parts) (λ _. omega arith)
+    (λ _. (long (parts_of path) b (some_part path)).0)
 
 one_part : (path : List ℕ) → (length (parts_of path) == 1) ≡ not (list_any (λ b. b == slash) path)
 one_part [] = refl
-one_part (b ∷ path) = go (b == slash) (some_part path) (one_part path)
-  where
-    go : (t : Bool) → 0 < length (parts_of path)
-        → (length (parts_of path) == 1) ≡ not (list_any (λ c. c == slash) path)
-        → (length (cond t ([] ∷ parts_of path) (onto_first b (parts_of path))) == 1)
-        ≡ not (t || list_any (λ c. c == slash) path)
-    go true some h =
-        false_from_ne_true (length ([] ∷ parts_of path) == 1)
-        (λ e. let one = eqb-true (length ([] ∷ parts_of path)) 1 e in omega arith)
-    go false some h = ap (λ n. n == 1) (long (parts_of path) b some).1 ∙ h
+one_part (b ∷ path) =
+    let some = some_part path in
+    elim (cases_Bool (b == slash)) [
+      | inl is ↦
+          rw is (false_from_ne_true (length ([] ∷ parts_of path) == 1)
+          (λ e. let one = eqb-true (length ([] ∷ parts_of path)) 1 e in omega arith))
+      | inr isnt ↦ rw (isnt, (long (parts_of path) b some).1) (one_part path)
+    ]
 
 -- ---- the front, a name, and `.txt`
 
@@ -78,12 +69,8 @@ named kind path h =
     let both =
     and_parts (starts_with (λ a b. a == b) path (prefix_of kind))
     (ends_with (λ a b. a == b) path (codes ".txt")) h in
-    let starts =
-    (starts_is same_byte path (prefix_of kind)
-    (starts_with (λ a b. a == b) path (prefix_of kind)) refl).0 both.0 in
-    let ends =
-    (ends_is same_byte path (codes ".txt")
-    (ends_with (λ a b. a == b) path (codes ".txt")) refl).0 both.1 in
+    let starts = (starts_is same_byte path (prefix_of kind) _ refl).0 both.0 in
+    let ends = (ends_is same_byte path (codes ".txt") _ refl).0 both.1 in
     let found =
     between (prefix_of kind) (drop (length (prefix_of kind)) path) _ (plain kind)
     (sym starts ∙ ends) in
@@ -94,18 +81,9 @@ named_from : (kind : Kind) (path name : List ℕ) → path ≡ prefix_of kind ++
 named_from kind path name e =
     and_from (starts_with (λ a b. a == b) path (prefix_of kind))
     (ends_with (λ a b. a == b) path (codes ".txt"))
-    ((starts_is same_byte path (prefix_of kind)
-    (starts_with (λ a b. a == b) path (prefix_of kind)) refl).1 (name ++ codes ".txt") e)
-    ((ends_is same_byte path (codes ".txt") (ends_with (λ a b. a == b) path (codes ".txt")) refl).1
-    (prefix_of kind ++ name) (e ∙ sym (append_assoc (prefix_of kind) name (codes ".txt"))))
-
-not_true : (b : Bool) → not b ≡ true → b ≡ false
-not_true false h = refl
-not_true true h = cc
-
-not_from : (b : Bool) → b ≡ false → not b ≡ true
-not_from false h = refl
-not_from true h = cc
+    ((starts_is same_byte path (prefix_of kind) _ refl).1 (name ++ codes ".txt") e)
+    ((ends_is same_byte path (codes ".txt") _ refl).1 (prefix_of kind ++ name)
+    (e ∙ sym (append_assoc (prefix_of kind) name (codes ".txt"))))
 
 -- the path is a manifest's, by the test and by the fact
 pub manifest_decides : (path : List ℕ) → Decides (is_manifest path) (IsManifestName path)
@@ -118,7 +96,7 @@ manifest_decides path = (
       let found = Any-from_list_any (λ kind. is_text_named (prefix_of kind) path) kinds both.1 in
       let text = named found.1 path found.4 in
       let flat : list_any (λ b. b == slash) path ≡ false =
-      not_true (list_any (λ b. b == slash) path) (sym (one_part path) ∙ both.0) in (
+      not-true (list_any (λ b. b == slash) path) (sym (one_part path) ∙ both.0) in (
         found.1,
         text.0,
         text.1,
@@ -131,16 +109,10 @@ manifest_decides path = (
       (λ inside. is.3 ((any_contains (λ a b. a == b) same_byte path slash).0 inside)) in
       and_from (length (parts_of path) == 1)
       (list_any (λ kind. is_text_named (prefix_of kind) path) kinds)
-      (one_part path ∙ not_from (list_any (λ b. b == slash) path) flat)
-      (of_kind is.0 (named_from is.0 path is.1 is.2)),
+      (one_part path ∙ not_from_false (list_any (λ b. b == slash) path) flat)
+      (any_one (λ kind. is_text_named (prefix_of kind) path) kinds is.0 (in_kinds is.0)
+      (named_from is.0 path is.1 is.2)),
 )
-  where
-    of_kind : (kind : Kind) → is_text_named (prefix_of kind) path ≡ true
-        → list_any (λ k. is_text_named (prefix_of k) path) kinds ≡ true
-    of_kind Payload h =
-        list_any_at (λ k. is_text_named (prefix_of k) path) kinds 0 Payload (omega arith) h
-    of_kind Tag h =
-        list_any_at (λ k. is_text_named (prefix_of k) path) kinds 1 Payload (omega arith) h
 
 -- the path is that of a manifest of one of the four algorithms, by the test and by the fact
 pub known_decides : (path : List ℕ) → Decides (is_known_manifest path) (IsReadManifestName path)
@@ -152,30 +124,10 @@ known_decides path = (
       Any-from_list_any (λ a. bytes_eq path (manifest_name kind.1 a)) algorithms kind.4 in (
         kind.1,
         algorithm.1,
-        (bytes_eq-Decides path (manifest_name kind.1 algorithm.1)).0
-            algorithm.4,
+        (bytes_eq-Decides path (manifest_name kind.1 algorithm.1)).0 algorithm.4,
       ),
-  λ is. of_kind is.0
-      (of_algorithm is.0 is.1 ((bytes_eq-Decides path (manifest_name is.0 is.1)).1 is.2)),
+  λ is.
+      any_one (λ k. is_known_of_kind k path) kinds is.0 (in_kinds is.0)
+      (any_one (λ a. bytes_eq path (manifest_name is.0 a)) algorithms is.1 (in_algorithms is.1)
+      ((bytes_eq-Decides path (manifest_name is.0 is.1)).1 is.2)),
 )
-  where
-    of_kind : (kind : Kind) → list_any (λ a. bytes_eq path (manifest_name kind a)) algorithms ≡ true
-        → list_any (λ k. list_any (λ a. bytes_eq path (manifest_name k a)) algorithms) kinds ≡ true
-    of_kind Payload h =
-        list_any_at (λ k. list_any (λ a. bytes_eq path (manifest_name k a)) algorithms) kinds 0
-        Payload (omega arith) h
-    of_kind Tag h =
-        list_any_at (λ k. list_any (λ a. bytes_eq path (manifest_name k a)) algorithms) kinds 1
-        Payload (omega arith) h
-
-    of_algorithm : (kind : Kind) (algorithm : Algorithm)
-        → bytes_eq path (manifest_name kind algorithm) ≡ true
-        → list_any (λ a. bytes_eq path (manifest_name kind a)) algorithms ≡ true
-    of_algorithm kind Md5 h =
-        list_any_at (λ a. bytes_eq path (manifest_name kind a)) algorithms 0 Md5 (omega arith) h
-    of_algorithm kind Sha1 h =
-        list_any_at (λ a. bytes_eq path (manifest_name kind a)) algorithms 1 Md5 (omega arith) h
-    of_algorithm kind Sha256 h =
-        list_any_at (λ a. bytes_eq path (manifest_name kind a)) algorithms 2 Md5 (omega arith) h
-    of_algorithm kind Sha512 h =
-        list_any_at (λ a. bytes_eq path (manifest_name kind a)) algorithms 3 Md5 (omega arith) h

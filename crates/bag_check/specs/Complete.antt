@@ -1,5 +1,6 @@
--- When a tree of files is complete (RFC 8493, 3), in this project's profile: nothing is wrong with it
--- but, maybe, digests. `complete_law` says that a valid bag is a complete one with right digests.
+-- When a tree of files is complete (RFC 8493, 3), in this project's profile: nothing is wrong with
+-- it but, maybe, digests. `complete_law` says that a valid bag is a complete one with right
+-- digests.
 use Rattle.std.specs.Prelude.{List, [], ◌∷◌, Option, Result}
 use Rattle.std.specs.List.{find}
 use Rattle.fed_types.specs.declared.bag_id.BagId.{BagId}
@@ -15,7 +16,8 @@ use Rattle.bag_check.specs.declared.fault.BagFault.TheVariants.{DuplicateEntry, 
 use Rattle.bag_check.specs.declared.fault.BagFault.TheVariants.{UnlistedFile}
 use Rattle.bag_check.specs.Check.{holds, answer}
 
--- the faults that a complete bag doesn't have, in the order of their numbers: all but a wrong digest
+-- the faults that a complete bag doesn't have, in the order of their numbers: all but a wrong
+-- digest
 abbrev pub gaps : List BagFault
 gaps =
     NoDeclaration ∷ BadDeclaration ∷ UnsupportedVersion ∷ UnsupportedEncoding ∷ HasFetch

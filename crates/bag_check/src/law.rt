@@ -19,8 +19,8 @@ pub fn valid_law()
         → IsValid facts ↔ (check_of facts ≡ Ok (identity_of facts)) }
 {}
 
-/// A tree is a valid bag exactly when it is complete and no digest is wrong. Then both checks answer
-/// its identity.
+/// A tree is a valid bag exactly when it is complete and no digest is wrong. Then both checks
+/// answer its identity.
 pub fn complete_law()
     ensures { (facts : TreeFacts)
         → IsValid facts

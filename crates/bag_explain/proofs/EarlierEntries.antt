@@ -4,6 +4,7 @@ use Rattle.std.proofs.Common.{◌++◌, refl, sym, ap, ◌∙◌, subst, inl, in
 use Rattle.std.specs.Str.{bytes_eq}
 use Rattle.std.proofs.lemmas.List.Folds.{list_any-append}
 use Rattle.std.proofs.lemmas.Slice.Eq.{bytes_eq-Decides}
+use Rattle.std.proofs.Math.Bool.{or-true}
 use Rattle.bag_text.specs.ListedFile.{ListedFile}
 use Rattle.bag_check.specs.Manifests.{is_listed}
 use Rattle.bag_explain.specs.Lines.{NumberedFile}
@@ -30,22 +31,11 @@ more_listed : (path : List ℕ) (before : List ListedFile) (file : ListedFile)
     → (is_listed path before ≡ true) ⊎ (file.path ≡ path)
     → is_listed path (before ++ file ∷ []) ≡ true
 more_listed path before file h =
-    list_any-append (λ (f : ListedFile). bytes_eq f.path path) before (file ∷ [])
-    ∙ elim h [
-      | inl early ↦ early_or (is_listed path before) (bytes_eq file.path path || false) early
-      | inr same ↦
-          same_or (is_listed path before) (bytes_eq file.path path)
-          ((bytes_eq-Decides file.path path).1 same)
-    ]
-  where
-    early_or : (a b : Bool) → a ≡ true → (a || b) ≡ true
-    early_or true b h = refl
-    early_or false b h = absurd cc
-
-    same_or : (a b : Bool) → b ≡ true → (a || (b || false)) ≡ true
-    same_or true b h = refl
-    same_or false true h = refl
-    same_or false false h = h
+    rw (list_any-append (λ (f : ListedFile). bytes_eq f.path path) before (file ∷ []))
+    (elim h [
+      | inl early ↦ rw early
+      | inr same ↦ rw ((bytes_eq-Decides file.path path).1 same, or-true)
+    ])
 
 -- ---- the entries that are repeated
 
@@ -68,7 +58,7 @@ repeated_before before (first ∷ entries) number entry (least, others) h =
       | inl here ↦
           let (listed, is) = in_when (is_listed first.file.path before) first entry here in
           let early : is_listed entry.file.path before ≡ true =
-          subst (λ (e : NumberedFile). is_listed e.file.path before ≡ true) is listed in
+          rw is at listed in
           (inl is, inl early)
       | inr there ↦
           let rest = repeated_before (before ++ first.file ∷ []) entries (first.line + 1) entry
@@ -100,7 +90,7 @@ before_repeated before (first ∷ entries) number entry (least, others) (inl e) 
   where
     go : IsBefore before (first ∷ entries) entry → is_listed first.file.path before ≡ true
     go (inl listed) =
-        subst (λ (x : NumberedFile). is_listed x.file.path before ≡ true) (sym e) listed
+        rw e listed
     go (inr (earlier, inl same, path, below)) =
         let one : first.line ≡ earlier.line = ap (λ (x : NumberedFile). x.line) same in
         let two : first.line ≡ entry.line = ap (λ (x : NumberedFile). x.line) e in

@@ -1,8 +1,7 @@
 -- The entries that are found to be astray, missing or of another digest are all that are.
-use Rattle.std.proofs.Common.{◌≡◌, Bool, true, List, [], ◌∷◌, refl, sym, subst}
+use Rattle.std.proofs.Common.{◌≡◌, Bool, true, List, [], ◌∷◌, refl, subst}
 use Rattle.std.specs.Prelude.{Contains}
 use Rattle.std.specs.List.{flat_map}
-use Rattle.bag_text.specs.declared.algorithm.Algorithm.{Algorithm}
 use Rattle.bag_tree.specs.Facts.{TreeFacts}
 use Rattle.bag_check.specs.declared.fault.BagFault.TheVariants.{UnsafePath, MissingFile}
 use Rattle.bag_check.specs.declared.fault.BagFault.TheVariants.{WrongDigest}
@@ -10,12 +9,10 @@ use Rattle.bag_check.specs.Manifests.{Manifest, manifests_of, manifest_name}
 use Rattle.bag_check.specs.Check.{is_astray, is_missing, is_wrong}
 use Rattle.bag_explain.specs.Lines.{NumberedFile}
 use Rattle.bag_explain.specs.Listings.{NumberedListing, listing_of, listings_of}
-use Rattle.bag_explain.specs.Places.{Place, at_entry, at_digest}
-use Rattle.bag_explain.specs.Places.{when, entry_place, digest_place, astray_places}
-use Rattle.bag_explain.specs.Places.{missing_places, wrong_places}
+use Rattle.bag_explain.specs.Places.{Place, at_entry, at_digest, when, entry_place, digest_place}
+use Rattle.bag_explain.specs.Places.{astray_places, missing_places, wrong_places}
 use Rattle.bag_explain.specs.Wrong.{IsNamed, ListsNumbered, IsWrongAt}
-use Rattle.bag_explain.proofs.Members.{In, in_some, some_in}
-use Rattle.bag_explain.proofs.Members.{in_when, when_in}
+use Rattle.bag_explain.proofs.Members.{In, in_some, some_in, in_when, when_in}
 use Rattle.bag_explain.proofs.ListedEntries.{entry_listed, listed_entry, of_manifest, manifest_of}
 
 -- ---- the entries that pass a test
@@ -119,5 +116,5 @@ module _ (facts : TreeFacts) where
       (manifest, file, (c, named), lists, same, (by, passed)) =
       at_passes facts wrong digest_place manifest (record { line = line; file = file })
       (at_digest path algorithm name line) c lists
-      (subst (λ (a : Algorithm). is_wrong a facts.files file ≡ true) (sym by) passed) cc
+      (rw by passed) cc
   is_wrong_there place h = absurd h

@@ -2,14 +2,7 @@
 use Rattle.std.specs.Prelude.{◌↔◌, Contains}
 use Rattle.bag_tree.specs.Facts.{TreeFacts}
 use Rattle.bag_check.specs.declared.fault.BagFault.{BagFault}
-use Rattle.bag_check.specs.declared.fault.BagFault.TheVariants.{NoDeclaration, BadDeclaration}
-use Rattle.bag_check.specs.declared.fault.BagFault.TheVariants.{UnsupportedVersion}
-use Rattle.bag_check.specs.declared.fault.BagFault.TheVariants.{UnsupportedEncoding}
-use Rattle.bag_check.specs.declared.fault.BagFault.TheVariants.{HasFetch, NoPayloadFolder}
-use Rattle.bag_check.specs.declared.fault.BagFault.TheVariants.{NoSha512Manifest, UnknownAlgorithm}
-use Rattle.bag_check.specs.declared.fault.BagFault.TheVariants.{MalformedLine, UnsafePath}
-use Rattle.bag_check.specs.declared.fault.BagFault.TheVariants.{DuplicateEntry, MissingFile}
-use Rattle.bag_check.specs.declared.fault.BagFault.TheVariants.{UnlistedFile, WrongDigest, Memory}
+use Rattle.bag_check.specs.declared.fault.BagFault.TheVariants as faults
 use Rattle.bag_check.specs.Check.{holds, declaration_in}
 use Rattle.bag_explain.specs.Places.{Place, places_of}
 use Rattle.bag_explain.specs.Wrong.{IsWrongAt}
@@ -26,22 +19,17 @@ use Rattle.bag_explain.proofs.TagFilePlaces.{unknown_is, is_unknown_there}
 exact : (facts : TreeFacts) (fault : BagFault) (place : Place)
     → In place (places_of fault facts) ↔ IsWrongAt fault facts place
 unfolding IsWrongAt places_of
-exact facts NoDeclaration place = one_place (holds NoDeclaration facts) _ place
-exact facts BadDeclaration place =
+exact facts faults.BadDeclaration place =
     (declared_line (declaration_in facts) place, line_declared (declaration_in facts) place)
-exact facts UnsupportedVersion place = one_place (holds UnsupportedVersion facts) _ place
-exact facts UnsupportedEncoding place = one_place (holds UnsupportedEncoding facts) _ place
-exact facts HasFetch place = one_place (holds HasFetch facts) _ place
-exact facts NoPayloadFolder place = one_place (holds NoPayloadFolder facts) _ place
-exact facts NoSha512Manifest place = one_place (holds NoSha512Manifest facts) _ place
-exact facts UnknownAlgorithm place = (unknown_is facts place, is_unknown_there facts place)
-exact facts MalformedLine place = (malformed_is facts place, is_malformed_there facts place)
-exact facts UnsafePath place = (astray_is facts place, is_astray_there facts place)
-exact facts DuplicateEntry place = (repeated_is facts place, is_repeated_there facts place)
-exact facts MissingFile place = (missing_is facts place, is_missing_there facts place)
-exact facts UnlistedFile place = (unlisted_is facts place, is_unlisted_there facts place)
-exact facts WrongDigest place = (wrong_is facts place, is_wrong_there facts place)
-exact facts Memory place = (λ h. absurd h, λ h. absurd h)
+exact facts faults.UnknownAlgorithm place = (unknown_is facts place, is_unknown_there facts place)
+exact facts faults.MalformedLine place = (malformed_is facts place, is_malformed_there facts place)
+exact facts faults.UnsafePath place = (astray_is facts place, is_astray_there facts place)
+exact facts faults.DuplicateEntry place = (repeated_is facts place, is_repeated_there facts place)
+exact facts faults.MissingFile place = (missing_is facts place, is_missing_there facts place)
+exact facts faults.UnlistedFile place = (unlisted_is facts place, is_unlisted_there facts place)
+exact facts faults.WrongDigest place = (wrong_is facts place, is_wrong_there facts place)
+exact facts faults.Memory place = (λ h. absurd h, λ h. absurd h)
+exact facts fault place = one_place (holds fault facts) _ place
 
 -- the same, of places as contracts say it
 pub places_exact : (fault : BagFault) (facts : TreeFacts) (place : Place)

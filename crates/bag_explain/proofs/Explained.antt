@@ -8,6 +8,7 @@ use Rattle.bag_tree.specs.Facts.{FileFact, TreeFacts}
 use Rattle.bag_check.specs.declared.fault.BagFault.{BagFault}
 use Rattle.bag_check.specs.Check.{all_faults}
 use Rattle.bag_check.specs.Complete.{gaps}
+use Rattle.bag_check.proofs.NamedLaws.{flat_same}
 use Rattle.bag_explain.specs.declared.entries.ListingFault.{ListingFault}
 use Rattle.bag_explain.specs.declared.entries.ListingFault.TheVariants.{Malformed, OfEntry}
 use Rattle.bag_explain.specs.declared.entries.ListingFault.TheVariants.{Repeated, Unlisted}
@@ -17,23 +18,16 @@ use Rattle.bag_explain.specs.Places.{Place, places_of}
 use Rattle.bag_explain.specs.Findings.{Finding, findings_by, findings_of, printed_fault}
 use Rattle.bag_explain.specs.Findings.{printed_places, explanation_of, gap_findings_of}
 use Rattle.bag_explain.specs.Findings.{gap_explanation_of}
-use Rattle.bag_explain.specs.inner.Stages.{fault_of, places_in, printed_in, tree_of}
-use Rattle.bag_explain.specs.inner.Stages.{printed_faults}
-use Rattle.bag_explain.proofs.FaultLines.{after_both}
+use Rattle.bag_explain.specs.inner.Stages.{fault_of, places_in, printed_in, tree_of, printed_faults}
 use Rattle.bag_explain.specs.inner.Stages.{first_faults, listing_faults, listing_gaps}
 use Rattle.bag_explain.specs.inner.Stages.{printed_listed, printed_listings, printed_gaps}
+use Rattle.bag_explain.proofs.FaultLines.{after_both}
 
 flat_map-flat_map : {X Y Z : Type 0} (g : Y → List Z) (f : X → List Y) (xs : List X)
     → flat_map g (flat_map f xs) ≡ flat_map (λ x. flat_map g (f x)) xs
 flat_map-flat_map g f [] = refl
 flat_map-flat_map g f (x ∷ xs) =
-    flat_map-append g (f x) (flat_map f xs)
-    ∙ ap (λ t. flat_map g (f x) ++ t) (flat_map-flat_map g f xs)
-
-flat_map-same : {X Y : Type 0} (f g : X → List Y) → ((x : X) → f x ≡ g x) → (xs : List X)
-    → flat_map f xs ≡ flat_map g xs
-flat_map-same f g same [] = refl
-flat_map-same f g same (x ∷ xs) = rw (same x, flat_map-same f g same xs) refl
+    rw (flat_map-append g (f x) (flat_map f xs), flat_map-flat_map g f xs)
 
 abbrev printed : Finding → List ℕ
 printed finding = printed_fault finding.fault finding.place
@@ -49,7 +43,7 @@ by_faults : (facts : TreeFacts) (faults : List BagFault)
     → flat_map printed (flat_map (findings_by facts) faults) ≡ printed_faults facts faults
 by_faults facts faults =
     flat_map-flat_map printed (findings_by facts) faults
-    ∙ flat_map-same (λ (fault : BagFault). flat_map printed (findings_by facts fault))
+    ∙ flat_same (λ (fault : BagFault). flat_map printed (findings_by facts fault))
     (λ (fault : BagFault). printed_places fault (places_of fault facts)) (by_fault facts) faults
 
 all_places : (facts : TreeFacts) (fault : ListingFault)
@@ -79,68 +73,30 @@ parts-are : (facts : TreeFacts) (listed : List ListingFault)
     ++ printed_listed listed facts.files (listings_of facts.files)
 parts-are facts listed =
     let each = λ (fault : BagFault). printed_places fault (places_of fault facts) in
-    flat_map-append each first_faults (map fault_of listed)
-    ∙ ap (λ t. printed_faults facts first_faults ++ t)
-    (flat_map-map each fault_of listed
-    ∙ flat_map-same (λ (fault : ListingFault). each (fault_of fault))
+    rw (flat_map-append each first_faults (map fault_of listed), flat_map-map each fault_of listed)
+    (ap (λ t. printed_faults facts first_faults ++ t)
+    (flat_same (λ (fault : ListingFault). each (fault_of fault))
     (λ (fault : ListingFault). printed_in fault facts.files (listings_of facts.files))
-    (by_listings facts) listed)
-
--- what is written for a tree of these parts
-record Written (facts : TreeFacts) (files : List FileFact) (payload : Bool)
-    (found : List NumberedListing) (empty first : List ℕ) : Type 0 where
-  pub same_files : files ≡ facts.files
-  pub same_payload : payload ≡ facts.payload
-  pub listed : found ≡ listings_of files
-  pub none : empty ≡ []
-  pub tags : first ≡ empty ++ printed_faults (tree_of files payload) first_faults
-
-written-is : (facts : TreeFacts) (files : List FileFact) (payload : Bool)
-    (found : List NumberedListing) (empty first : List ℕ) (listed : List ListingFault)
-    (all : List ℕ) → Written facts files payload found empty first
-    → all ≡ first ++ printed_listed listed files found
-    → all ≡ printed_faults facts (first_faults ++ map fault_of listed)
-written-is facts files payload found empty first listed all w rest =
-    let lines = printed_listed listed in
-    rest
-    ∙ (ap (λ t. t ++ lines files found)
-    (w.tags ∙ ap (λ t. t ++ printed_faults (tree_of files payload) first_faults) w.none)
-    ∙ (ap (λ ls. printed_faults (tree_of files payload) first_faults ++ lines files ls) w.listed
-    ∙ (ap (λ fs. printed_faults (tree_of fs payload) first_faults
-    ++ lines fs (listings_of fs)) w.same_files
-    ∙ (ap (λ p. printed_faults (tree_of facts.files p) first_faults
-    ++ lines facts.files (listings_of facts.files)) w.same_payload
-    ∙ sym (parts-are facts listed)))))
+    (by_listings facts) listed))
 
 module _ (facts : TreeFacts) (files : List FileFact) (payload : Bool)
-    (found : List NumberedListing) (empty first all : List ℕ) where
-  pub explained : files ≡ facts.files → payload ≡ facts.payload → found ≡ listings_of files
-      → empty ≡ [] → first ≡ empty ++ printed_faults (tree_of files payload) first_faults
-      → all ≡ first ++ printed_listings files found → all ≡ explanation_of facts
-  unfolding explanation_of findings_of
-  explained same_files same_payload listed none tags rest =
-      written-is facts files payload found empty first listing_faults all (record {
-        same_files = same_files;
-        same_payload = same_payload;
-        listed = listed;
-        none = none;
-        tags = tags;
-      }) rest
-      ∙ sym (by_faults facts all_faults)
+    (found : List NumberedListing) (empty first all : List ℕ) (same_files : files ≡ facts.files)
+    (same_payload : payload ≡ facts.payload) (listed : found ≡ listings_of files)
+    (none : empty ≡ [])
+    (tags : first ≡ empty ++ printed_faults (tree_of files payload) first_faults) where
+  -- what is written for a tree of these parts
+  written-is : (faults : List ListingFault) → all ≡ first ++ printed_listed faults files found
+      → all ≡ printed_faults facts (first_faults ++ map fault_of faults)
+  written-is faults rest =
+      rw (rest, tags, none, listed, same_files, same_payload) (sym (parts-are facts faults))
 
-  pub gaps_explained : files ≡ facts.files → payload ≡ facts.payload → found ≡ listings_of files
-      → empty ≡ [] → first ≡ empty ++ printed_faults (tree_of files payload) first_faults
-      → all ≡ first ++ printed_gaps files found → all ≡ gap_explanation_of facts
+  pub explained : all ≡ first ++ printed_listings files found → all ≡ explanation_of facts
+  unfolding explanation_of findings_of
+  explained rest = written-is listing_faults rest ∙ sym (by_faults facts all_faults)
+
+  pub gaps_explained : all ≡ first ++ printed_gaps files found → all ≡ gap_explanation_of facts
   unfolding gap_explanation_of gap_findings_of
-  gaps_explained same_files same_payload listed none tags rest =
-      written-is facts files payload found empty first listing_gaps all (record {
-        same_files = same_files;
-        same_payload = same_payload;
-        listed = listed;
-        none = none;
-        tags = tags;
-      }) rest
-      ∙ sym (by_faults facts gaps)
+  gaps_explained rest = written-is listing_gaps rest ∙ sym (by_faults facts gaps)
 
 -- one fault more is written
 pub fault_more : {before after : List ℕ} (facts : TreeFacts) (faults : List BagFault)
@@ -148,13 +104,12 @@ pub fault_more : {before after : List ℕ} (facts : TreeFacts) (faults : List Ba
     → after ≡ before ++ printed_places fault (places_of fault facts)
     → after ≡ start ++ printed_faults facts (faults ++ fault ∷ [])
 fault_more {before} {after} facts faults fault start e h =
-    after_both start (printed_faults facts faults) (printed_places fault (places_of fault facts))
-    before after e h
-    ∙ ap (λ t. start ++ t)
-    (ap (λ t. printed_faults facts faults ++ t)
-    (sym (append-nil (printed_places fault (places_of fault facts))))
-    ∙ sym (flat_map-append (λ (f : BagFault). printed_places f (places_of f facts)) faults
-    (fault ∷ [])))
+    rw (
+      flat_map-append (λ (f : BagFault). printed_places f (places_of f facts)) faults (fault ∷ []),
+      append-nil (printed_places fault (places_of fault facts)),
+    )
+    (after_both start (printed_faults facts faults) (printed_places fault (places_of fault facts))
+    before after e h)
 
 pub no_faults : (start : List ℕ) → start ≡ start ++ []
 no_faults start = sym (append-nil start)

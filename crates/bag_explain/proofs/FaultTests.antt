@@ -9,14 +9,7 @@ use Rattle.bag_text.specs.Lines.{lines_of}
 use Rattle.bag_text.specs.Readers.{declaration_of}
 use Rattle.bag_tree.specs.Facts.{FileFact, TreeFacts}
 use Rattle.bag_check.specs.declared.fault.BagFault.{BagFault}
-use Rattle.bag_check.specs.declared.fault.BagFault.TheVariants.{NoDeclaration, BadDeclaration}
-use Rattle.bag_check.specs.declared.fault.BagFault.TheVariants.{UnsupportedVersion}
-use Rattle.bag_check.specs.declared.fault.BagFault.TheVariants.{UnsupportedEncoding}
-use Rattle.bag_check.specs.declared.fault.BagFault.TheVariants.{HasFetch, NoPayloadFolder}
-use Rattle.bag_check.specs.declared.fault.BagFault.TheVariants.{NoSha512Manifest, UnknownAlgorithm}
-use Rattle.bag_check.specs.declared.fault.BagFault.TheVariants.{MalformedLine, UnsafePath}
-use Rattle.bag_check.specs.declared.fault.BagFault.TheVariants.{DuplicateEntry, MissingFile}
-use Rattle.bag_check.specs.declared.fault.BagFault.TheVariants.{UnlistedFile, WrongDigest, Memory}
+use Rattle.bag_check.specs.declared.fault.BagFault.TheVariants as faults
 use Rattle.bag_check.specs.declared.manifests.Kind.{Kind}
 use Rattle.bag_check.specs.declared.manifests.Kind.TheVariants.{Payload, Tag}
 use Rattle.bag_check.specs.Manifests.{Manifest, manifests_of, entries, passes, is_malformed}
@@ -25,12 +18,10 @@ use Rattle.bag_check.specs.Check.{holds, is_bad_declaration, is_astray, is_missi
 use Rattle.bag_check.specs.Check.{is_unlisted, repeats, if_payload, declaration_in}
 use Rattle.bag_check.proofs.Repeats.{same_any}
 use Rattle.bag_explain.specs.Lines.{NumberedFile, malformed_from, numbered_from}
-use Rattle.bag_explain.specs.Listings.{NumberedListing, listing_of, listings_of}
-use Rattle.bag_explain.specs.Listings.{unless_malformed}
-use Rattle.bag_explain.specs.Places.{Place, at_unlisted, name_of, places_of, when}
-use Rattle.bag_explain.specs.Places.{of_payload, files_in, faulty_line}
-use Rattle.bag_explain.specs.Places.{faulty_lines, unknown_at, repeated_after}
-use Rattle.bag_explain.specs.Places.{astray_at, repeated_at, missing_at, wrong_at}
+use Rattle.bag_explain.specs.Listings.{NumberedListing, listing_of, listings_of, unless_malformed}
+use Rattle.bag_explain.specs.Places.{Place, at_unlisted, name_of, places_of, when, of_payload}
+use Rattle.bag_explain.specs.Places.{files_in, faulty_line, faulty_lines, unknown_at}
+use Rattle.bag_explain.specs.Places.{repeated_after, astray_at, repeated_at, missing_at, wrong_at}
 use Rattle.bag_explain.specs.Places.{malformed_places, astray_places, repeated_places}
 use Rattle.bag_explain.specs.Places.{missing_places, unlisted_places, wrong_places}
 use Rattle.bag_explain.specs.Findings.{has_some}
@@ -46,8 +37,7 @@ some_append (x ∷ a) b = refl
 some_flat_map : {X Y : Type 0} (f : X → List Y) (xs : List X)
     → has_some (flat_map f xs) ≡ list_any (λ x. has_some (f x)) xs
 some_flat_map f [] = refl
-some_flat_map f (x ∷ xs) =
-    some_append (f x) (flat_map f xs) ∙ ap (λ t. has_some (f x) || t) (some_flat_map f xs)
+some_flat_map f (x ∷ xs) = rw (some_append (f x) (flat_map f xs), some_flat_map f xs)
 
 some_when : {X : Type 0} (test : Bool) (x : X) → has_some (when test (x ∷ [])) ≡ test
 some_when true x = refl
@@ -89,14 +79,14 @@ passed : (read : Result (List ListedFile) ℕ) (malformed : List ℕ) (found : L
     → ((files : List NumberedFile) → test (files_in files) ≡ other files) → other [] ≡ false
     → Agrees read malformed found → passes test read ≡ other (unless_malformed malformed found)
 passed (Ok files) malformed found test other same none (sound, are) =
-    ap test (sym are) ∙ (same found ∙ ap (λ m. other (unless_malformed m found)) (sym sound))
+    rw (sound, ← are) (same found)
 passed (Err line) [] found test other same none h = cc
 passed (Err line) (first ∷ malformed) found test other same none h = sym none
 
 any_file : (test : ListedFile → Bool) (files : List NumberedFile)
     → list_any test (files_in files) ≡ list_any (λ entry. test entry.file) files
 any_file test [] = refl
-any_file test (entry ∷ files) = ap (λ t. test entry.file || t) (any_file test files)
+any_file test (entry ∷ files) = rw (any_file test files)
 
 entries_test : (test : ListedFile → Bool) (at : NumberedFile → List Place)
     → ((entry : NumberedFile) → has_some (at entry) ≡ test entry.file)
@@ -226,46 +216,25 @@ of_manifests : (test : Manifest → Bool) (places : NumberedListing → List Pla
 unfolding listings_of
 of_manifests test places same files =
     let all = manifests_of files in
-    same_any test (λ manifest. has_some (places (listing_of manifest))) same all
-    ∙ (sym (some_flat_map (λ manifest. places (listing_of manifest)) all)
-    ∙ ap has_some (sym (flat_map-map places listing_of all)))
+    rw (
+      flat_map-map places listing_of all,
+      some_flat_map (λ manifest. places (listing_of manifest)) all,
+    ) (same_any test (λ manifest. has_some (places (listing_of manifest))) same all)
 
 -- a fault holds exactly where it has a place
 pub placed : (facts : TreeFacts) (fault : BagFault)
     → holds fault facts ≡ has_some (places_of fault facts)
 unfolding places_of holds
-placed facts NoDeclaration = sym (some_when _ _)
-placed facts BadDeclaration = some_declared (declaration_in facts)
-placed facts UnsupportedVersion = sym (some_when _ _)
-placed facts UnsupportedEncoding = sym (some_when _ _)
-placed facts HasFetch = sym (some_when _ _)
-placed facts NoPayloadFolder = sym (some_when _ _)
-placed facts NoSha512Manifest = sym (some_when _ _)
-placed facts UnknownAlgorithm = some_unknown facts.files
-placed facts MalformedLine =
-    of_manifests (λ (manifest : Manifest). is_malformed (entries manifest)) malformed_places
-    malformed_here facts.files
-placed facts UnsafePath =
-    of_manifests
-    (λ (manifest : Manifest). passes (list_any (is_astray manifest.kind)) (entries manifest))
-    astray_places astray_here facts.files
-placed facts DuplicateEntry =
-    of_manifests
-    (λ (manifest : Manifest). passes (λ files. if_payload manifest.kind (repeats files))
-    (entries manifest)) repeated_places repeated_here facts.files
-placed facts MissingFile =
-    of_manifests
-    (λ (manifest : Manifest). passes (list_any (is_missing facts.files)) (entries manifest))
-    (missing_places facts.files) (λ manifest. missing_here manifest facts.files) facts.files
-placed facts UnlistedFile =
-    of_manifests
-    (λ (manifest : Manifest). passes
-    (λ listed. if_payload manifest.kind (list_any (is_unlisted listed) facts.files))
-    (entries manifest)) (unlisted_places facts.files)
-    (λ manifest. unlisted_here manifest facts.files) facts.files
-placed facts WrongDigest =
-    of_manifests
-    (λ (manifest : Manifest). passes (list_any (is_wrong manifest.algorithm facts.files))
-    (entries manifest)) (wrong_places facts.files) (λ manifest. wrong_here manifest facts.files)
-    facts.files
-placed facts Memory = refl
+placed facts faults.BadDeclaration = some_declared (declaration_in facts)
+placed facts faults.UnknownAlgorithm = some_unknown facts.files
+placed facts faults.MalformedLine = of_manifests _ _ malformed_here facts.files
+placed facts faults.UnsafePath = of_manifests _ _ astray_here facts.files
+placed facts faults.DuplicateEntry = of_manifests _ _ repeated_here facts.files
+placed facts faults.MissingFile =
+    of_manifests _ _ (λ manifest. missing_here manifest facts.files) facts.files
+placed facts faults.UnlistedFile =
+    of_manifests _ _ (λ manifest. unlisted_here manifest facts.files) facts.files
+placed facts faults.WrongDigest =
+    of_manifests _ _ (λ manifest. wrong_here manifest facts.files) facts.files
+placed facts faults.Memory = refl
+placed facts fault = sym (some_when _ _)

@@ -11,15 +11,11 @@ use Rattle.bag_check.proofs.ValidLaws.{valid_checked, checked_valid}
 use Rattle.bag_explain.specs.Places.{Place, places_of}
 use Rattle.bag_explain.specs.Findings.{Finding, findings_by, findings_of, has_some, first_of}
 use Rattle.bag_explain.proofs.FaultTests.{placed}
+use Rattle.bag_explain.proofs.NumberLaws.{all_append}
 
 module _ (facts : TreeFacts) where
   abbrev Holds : Finding → Type 0
   Holds finding = holds finding.fault facts ≡ true
-
-  all_append : (a b : List Finding) → AllByRecursion Holds a → AllByRecursion Holds b
-      → AllByRecursion Holds (a ++ b)
-  all_append [] b none all = all
-  all_append (finding ∷ a) b (first, others) all = (first, all_append a b others all)
 
   at_each : (fault : BagFault) → holds fault facts ≡ true → (places : List Place)
       → AllByRecursion Holds (map (λ place. record { fault = fault; place = place }) places)
@@ -35,7 +31,7 @@ module _ (facts : TreeFacts) where
       → AllByRecursion Holds (flat_map (findings_by facts) faults)
   of_faults [] = tt
   of_faults (fault ∷ faults) =
-      all_append (findings_by facts fault) (flat_map (findings_by facts) faults)
+      all_append Holds (findings_by facts fault) (flat_map (findings_by facts) faults)
       (of_fault fault (places_of fault facts) (placed facts fault)) (of_faults faults)
 
   -- each finding's fault holds

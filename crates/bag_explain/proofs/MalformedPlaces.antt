@@ -1,9 +1,8 @@
 -- The malformed lines that are found are all that are.
-use Rattle.std.proofs.Common.{◌≡◌, refl, subst, inl}
+use Rattle.std.proofs.Common.{refl, subst, inl}
 use Rattle.std.specs.List.{flat_map}
 use Rattle.bag_tree.specs.Facts.{TreeFacts}
 use Rattle.bag_check.specs.declared.fault.BagFault.TheVariants.{MalformedLine}
-use Rattle.bag_check.specs.Manifests.{manifest_name}
 use Rattle.bag_explain.specs.Listings.{listing_of, listings_of}
 use Rattle.bag_explain.specs.Places.{Place, at_line, name_of, malformed_at, malformed_places}
 use Rattle.bag_explain.specs.Wrong.{IsWrongAt}
@@ -30,9 +29,7 @@ module _ (facts : TreeFacts) where
   unfolding IsWrongAt listing_of
   is_malformed_there (at_line name line) (manifest, (c, named), malformed) =
       let listing = listing_of manifest in
-      let e : at_line (manifest_name manifest.kind manifest.algorithm) line ≡ at_line name line =
-      cc in
       manifest_of malformed_places facts.files (at_line name line) manifest c
       (some_in (malformed_at listing) listing.malformed line (at_line name line)
-      (here_malformed manifest line malformed) (inl e))
+      (here_malformed manifest line malformed) (inl cc))
   is_malformed_there place h = absurd h

@@ -1,6 +1,6 @@
 -- The manifests of a tree have a name each.
-use Rattle.std.proofs.Common.{◌≡◌, ◌≢◌, ℕ, false, List, [], ◌∷◌, Option, Some, None, refl}
-use Rattle.std.proofs.Common.{sym, ap, ◌∙◌, inl, inr}
+use Rattle.std.proofs.Common.{◌≡◌, ◌≢◌, ℕ, false, List, Option, Some, None, refl}
+use Rattle.std.proofs.Common.{sym, ap, ◌∙◌, inl, inr, arith}
 use Rattle.std.specs.Str.{bytes_eq}
 use Rattle.std.proofs.lemmas.Slice.Eq.{bytes_eq-Decides}
 use Rattle.bag_text.specs.declared.algorithm.Algorithm.{Algorithm}
@@ -37,30 +37,13 @@ algorithm_named Tag a b h = absurd (differ (manifest_name Tag a) (manifest_name 
 -- ---- each kind once, and each algorithm
 
 kinds_once : Pairs (λ (k l : Kind). k ≢ l) kinds
-kinds_once = (payload, ((λ l h. absurd h), tt))
-  where
-    payload : (l : Kind) → In l (Tag ∷ []) → Payload ≢ l
-    payload Payload (inl e) same = absurd (cc e)
-    payload Payload (inr h) same = absurd h
-    payload Tag h same = absurd cc
+kinds_once = ((λ l h same. grind arith), ((λ l h. absurd h), tt))
 
 algorithms_once : Pairs (λ (a b : Algorithm). a ≢ b) algorithms
-algorithms_once = (md5, (sha1, (sha256, ((λ b h. absurd h), tt))))
-  where
-    md5 : (b : Algorithm) → In b (Sha1 ∷ Sha256 ∷ Sha512 ∷ []) → Md5 ≢ b
-    md5 b (inl e) same = absurd (cc (same ∙ sym e))
-    md5 b (inr (inl e)) same = absurd (cc (same ∙ sym e))
-    md5 b (inr (inr (inl e))) same = absurd (cc (same ∙ sym e))
-    md5 b (inr (inr (inr h))) same = absurd h
-
-    sha1 : (b : Algorithm) → In b (Sha256 ∷ Sha512 ∷ []) → Sha1 ≢ b
-    sha1 b (inl e) same = absurd (cc (same ∙ sym e))
-    sha1 b (inr (inl e)) same = absurd (cc (same ∙ sym e))
-    sha1 b (inr (inr h)) same = absurd h
-
-    sha256 : (b : Algorithm) → In b (Sha512 ∷ []) → Sha256 ≢ b
-    sha256 b (inl e) same = absurd (cc (same ∙ sym e))
-    sha256 b (inr h) same = absurd h
+algorithms_once = (
+  λ b h same. grind arith,
+  ((λ b h same. grind arith), ((λ b h same. grind arith), ((λ b h. absurd h), tt))),
+)
 
 -- ---- the manifests among the files
 
@@ -110,10 +93,7 @@ module _ (files : List FileFact) where
       other a b ne x y h j same =
           let (kx, ax) = of_both k a x h in
           let (ky, ay) = of_both k b y j in
-          ne (algorithm_named k a b
-          (ap (λ c. manifest_name k c) ax ∙ (ap (λ l. manifest_name l x.algorithm) kx
-          ∙ (same ∙ (ap (λ l. manifest_name l y.algorithm) (sym ky)
-          ∙ ap (λ c. manifest_name k c) (sym ay))))))
+          ne (algorithm_named k a b cc)
 
   -- no two have one name
   pub manifests_once : Pairs AreOther (manifests_of files)
@@ -125,5 +105,8 @@ module _ (files : List FileFact) where
       other : (k l : Kind) → k ≢ l → (x y : Manifest) → In x (manifests_of_kind k files)
           → In y (manifests_of_kind l files) → AreOther x y
       other k l ne x y h j same =
-          ne (of_kind k x h ∙ (kind_named x.kind y.kind x.algorithm y.algorithm same
-          ∙ sym (of_kind l y j)))
+          ne (cc (
+            of_kind k x h,
+            kind_named x.kind y.kind x.algorithm y.algorithm same,
+            of_kind l y j,
+          ))

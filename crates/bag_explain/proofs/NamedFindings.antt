@@ -1,28 +1,19 @@
 -- Facts without the digests that no manifest asks for: what is wrong is the same.
 use Rattle.std.proofs.Common.{◌≡◌, Bool, not, List, [], ◌∷◌, map, refl, ap, ◌∙◌}
-use Rattle.std.specs.Prelude.{codes}
 use Rattle.std.specs.List.{flat_map, AllByRecursion}
 use Rattle.bag_tree.specs.declared.algorithms.Algorithms.{Algorithms}
-use Rattle.bag_tree.specs.Path.{payload_folder}
 use Rattle.bag_tree.specs.Tree.{Files}
 use Rattle.bag_tree.specs.Facts.{FileFact, TreeFacts, facts_of_tree}
 use Rattle.bag_check.specs.declared.fault.BagFault.{BagFault}
-use Rattle.bag_check.specs.declared.fault.BagFault.TheVariants.{NoDeclaration, BadDeclaration}
-use Rattle.bag_check.specs.declared.fault.BagFault.TheVariants.{UnsupportedVersion}
-use Rattle.bag_check.specs.declared.fault.BagFault.TheVariants.{UnsupportedEncoding, HasFetch}
-use Rattle.bag_check.specs.declared.fault.BagFault.TheVariants.{NoPayloadFolder, NoSha512Manifest}
-use Rattle.bag_check.specs.declared.fault.BagFault.TheVariants.{UnknownAlgorithm, MalformedLine}
-use Rattle.bag_check.specs.declared.fault.BagFault.TheVariants.{UnsafePath, DuplicateEntry}
-use Rattle.bag_check.specs.declared.fault.BagFault.TheVariants.{MissingFile, UnlistedFile}
-use Rattle.bag_check.specs.declared.fault.BagFault.TheVariants.{WrongDigest, Memory}
-use Rattle.bag_check.specs.Manifests.{Manifest, manifests_of, sha512_manifest, is_unknown}
+use Rattle.bag_check.specs.declared.fault.BagFault.TheVariants as faults
+use Rattle.bag_check.specs.Manifests.{Manifest, manifests_of, is_unknown}
 use Rattle.bag_check.specs.Check.{holds, all_faults}
 use Rattle.bag_check.specs.Named.{with_only, only_named, named_facts_of}
 use Rattle.bag_check.proofs.NamedManifests.{IsNamed, all_named}
 use Rattle.bag_check.proofs.NamedLaws.{flat_same, fewer, same_file, same_manifests, same_wrong}
 use Rattle.bag_check.proofs.NamedLaws.{named, declared_kept, holds_kept, named_facts}
 use Rattle.bag_explain.specs.Listings.{NumberedListing, listing_of, listings_of, unless_malformed}
-use Rattle.bag_explain.specs.Places.{Place, at_file, at_line, when, of_payload, entry_place}
+use Rattle.bag_explain.specs.Places.{Place, when, of_payload, entry_place}
 use Rattle.bag_explain.specs.Places.{digest_place, malformed_places, astray_places, repeated_places}
 use Rattle.bag_explain.specs.Places.{missing_at, missing_places, unlisted_at, unlisted_places}
 use Rattle.bag_explain.specs.Places.{wrong_at, wrong_places, unknown_at, faulty_lines, places_of}
@@ -89,28 +80,22 @@ module _ (facts : TreeFacts) where
 
   places_kept : (fault : BagFault) → places_of fault (only_named facts) ≡ places_of fault facts
   unfolding places_of
-  places_kept NoDeclaration = held NoDeclaration (at_file (codes "bagit.txt") ∷ [])
-  places_kept BadDeclaration = ap faulty_lines (declared_kept facts)
-  places_kept UnsupportedVersion = held UnsupportedVersion (at_line (codes "bagit.txt") 1 ∷ [])
-  places_kept UnsupportedEncoding =
-      held UnsupportedEncoding (at_line (codes "bagit.txt") 2 ∷ [])
-  places_kept HasFetch = held HasFetch (at_file (codes "fetch.txt") ∷ [])
-  places_kept NoPayloadFolder = held NoPayloadFolder (at_file payload_folder ∷ [])
-  places_kept NoSha512Manifest = held NoSha512Manifest (at_file sha512_manifest ∷ [])
-  places_kept UnknownAlgorithm = unknown_kept
-  places_kept MalformedLine = ap (flat_map malformed_places) listings_kept
-  places_kept UnsafePath = ap (flat_map astray_places) listings_kept
-  places_kept DuplicateEntry = ap (flat_map repeated_places) listings_kept
-  places_kept MissingFile =
+  places_kept faults.BadDeclaration = ap faulty_lines (declared_kept facts)
+  places_kept faults.UnknownAlgorithm = unknown_kept
+  places_kept faults.MalformedLine = ap (flat_map malformed_places) listings_kept
+  places_kept faults.UnsafePath = ap (flat_map astray_places) listings_kept
+  places_kept faults.DuplicateEntry = ap (flat_map repeated_places) listings_kept
+  places_kept faults.MissingFile =
       ap (flat_map (missing_places files)) listings_kept
       ∙ flat_same (missing_places files) (missing_places facts.files) missing_kept
       (listings_of facts.files)
-  places_kept UnlistedFile =
+  places_kept faults.UnlistedFile =
       ap (flat_map (unlisted_places files)) listings_kept
       ∙ flat_same (unlisted_places files) (unlisted_places facts.files) unlisted_kept
       (listings_of facts.files)
-  places_kept WrongDigest = ap (flat_map (wrong_places files)) listings_kept ∙ wrong_kept
-  places_kept Memory = refl
+  places_kept faults.WrongDigest = ap (flat_map (wrong_places files)) listings_kept ∙ wrong_kept
+  places_kept faults.Memory = refl
+  places_kept fault = held fault _
 
   pub findings_kept : findings_of (only_named facts) ≡ findings_of facts
   unfolding findings_of

@@ -1,7 +1,6 @@
 -- The numbers of a manifest's lines are theirs.
-use Rattle.std.proofs.Common.{◌≡◌, ℕ, ◌+◌, Bool, true, false, List, [], ◌∷◌, ◌++◌, length}
-use Rattle.std.proofs.Common.{Option, Some, None, refl, sym, ap, ◌∙◌, subst}
-use Rattle.std.proofs.Common.{append_assoc}
+use Rattle.std.proofs.Common.{◌≡◌, ℕ, ◌+◌, Bool, true, false, List, [], ◌∷◌, ◌++◌, length, Option}
+use Rattle.std.proofs.Common.{Some, None, refl, sym, ap, ◌∙◌, append_assoc}
 use Rattle.std.specs.List.{AllByRecursion, list_all}
 use Rattle.std.proofs.lemmas.List.{length-append}
 use Rattle.bag_text.specs.declared.algorithm.Algorithm.{Algorithm}
@@ -11,12 +10,11 @@ use Rattle.bag_text.specs.Blanks.{IsBlank, is_blank}
 use Rattle.bag_text.specs.Manifests.{IsEntryLine}
 use Rattle.bag_text.specs.Readers.{entries_of, file_in}
 use Rattle.bag_text.proofs.EntryLaws.{file_in-entry, entry-file_in}
-use Rattle.bag_explain.specs.Lines.{numbered, if_malformed, numbered_from}
-use Rattle.bag_explain.specs.Lines.{malformed_from}
+use Rattle.bag_explain.specs.Lines.{numbered, if_malformed, numbered_from, malformed_from}
 use Rattle.bag_explain.specs.LineNumbers.{ListsAt, IsMalformedAt}
 use Rattle.bag_explain.proofs.LineLaws.{has_end, Endless, endless, said, line_says}
 
-all_append : {X : Type 0} (P : X → Type 0) (xs ys : List X) → AllByRecursion P xs
+pub all_append : {X : Type 0} (P : X → Type 0) (xs ys : List X) → AllByRecursion P xs
     → AllByRecursion P ys → AllByRecursion P (xs ++ ys)
 all_append P [] ys none all = all
 all_append P (x ∷ xs) ys (first, others) all = (first, all_append P xs ys others all)
@@ -40,15 +38,14 @@ each_line : {X : Type 0} (P : X → Type 0) (at : ℕ → List ℕ → List X)
     → ((b a : List (List ℕ)) (line : List ℕ) → all ≡ b ++ line ∷ a → has_end line ≡ false
     → AllByRecursion P (at (length b + 1) line))
     → AllByRecursion P (from (length before + 1) lines)
-each_line P at from none more all before [] e h here = subst (AllByRecursion P) (sym (none _)) tt
+each_line P at from none more all before [] e h here = rw (none (length before + 1)) tt
 each_line P at from none more all before (line ∷ lines) e (h, hs) here =
     let rest : AllByRecursion P (from (length (before ++ line ∷ []) + 1) lines) =
     each_line P at from none more all (before ++ line ∷ []) lines
     (e ∙ one_more before lines line) hs here in
-    subst (AllByRecursion P) (sym (more (length before + 1) line lines))
+    rw (more (length before + 1) line lines)
     (all_append P (at (length before + 1) line) (from ((length before + 1) + 1) lines)
-    (here before lines line e h)
-    (subst (λ (n : ℕ). AllByRecursion P (from n lines)) (next_number before line) rest))
+    (here before lines line e h) (rw (next_number before line) at rest))
 
 pub numbered_are : (algorithm : Algorithm) (text : List ℕ)
     → AllByRecursion (ListsAt algorithm (lines_of text)) (numbered_from algorithm 1 (lines_of text))
@@ -74,8 +71,7 @@ numbered_are algorithm text =
         → AllByRecursion (ListsAt algorithm all)
         (numbered (length before + 1) (entries_of algorithm line))
     here before after line e h =
-        subst (λ r. AllByRecursion (ListsAt algorithm all) (numbered (length before + 1) r))
-        (sym (line_says algorithm line h))
+        rw (line_says algorithm line h)
         (go before after line e (list_all is_blank line) (file_in algorithm line) refl)
 
 pub malformed_are : (algorithm : Algorithm) (text : List ℕ)
@@ -91,7 +87,7 @@ malformed_are algorithm text =
     all = lines_of text
 
     not_blank : (line : List ℕ) → list_all is_blank line ≡ false → ¬ (IsBlank line)
-    not_blank line h is = absurd (cc (sym h ∙ is))
+    not_blank line h is = absurd (cc (h, is))
 
     no_file : (line : List ℕ) → file_in algorithm line ≡ None → (file : ListedFile)
         → ¬ (IsEntryLine algorithm line file)
@@ -112,7 +108,5 @@ malformed_are algorithm text =
         → AllByRecursion (IsMalformedAt algorithm all)
         (if_malformed (length before + 1) (entries_of algorithm line))
     here before after line e h =
-        subst (λ r. AllByRecursion (IsMalformedAt algorithm all)
-        (if_malformed (length before + 1) r))
-        (sym (line_says algorithm line h))
+        rw (line_says algorithm line h)
         (go before after line e (list_all is_blank line) (file_in algorithm line) refl refl)

@@ -1,10 +1,8 @@
 -- The numbered lines of a manifest, one line on, and its listing.
 use Rattle.std.proofs.Common.{◌≡◌, ℕ, ◌+◌, ◌<◌, ◌≤◌, List, [], ◌∷◌, ◌++◌, length, take, get_or, map}
-use Rattle.std.proofs.Common.{refl, sym, ap, ◌∙◌, append_assoc, append-nil, arith}
-use Rattle.std.proofs.Common.{None, Some}
+use Rattle.std.proofs.Common.{refl, sym, ap, ◌∙◌, append_assoc, append-nil, arith, None, Some}
 use Rattle.std.specs.Borrow.{Bor}
-use Rattle.std.proofs.lemmas.List.{map-append, take_more, take_all, length-take-le}
-use Rattle.std.proofs.lemmas.List.{length-map}
+use Rattle.std.proofs.lemmas.List.{map-append, take_more, take_all, length-take-le, length-map}
 use Rattle.bag_text.specs.declared.algorithm.Algorithm.{Algorithm}
 use Rattle.bag_text.specs.declared.algorithm.Algorithm.TheVariants.{Md5, Sha1, Sha256, Sha512}
 use Rattle.bag_text.specs.Lines.{lines_of}
@@ -35,10 +33,9 @@ from-snoc at from none more number (first ∷ lines) line =
       more number first (lines ++ line ∷ []),
       more number first lines,
       from-snoc at from none more (number + 1) lines line,
+      e,
+      append_assoc,
     )
-    (sym (append_assoc (at number first) (from (number + 1) lines)
-    (at ((number + 1) + length lines) line))
-    ∙ ap (λ (n : ℕ). (at number first ++ from (number + 1) lines) ++ at n line) e)
 
 -- ---- the loop over the lines
 
@@ -51,9 +48,10 @@ module _ (algorithm : Algorithm) (items : List (Bor (List ℕ))) (place number :
   text = (get_or items place other).now
 
   next : texts_of (take (place + 1) items) ≡ texts_of (take place items) ++ text ∷ []
-  next = ap texts_of (take_more items place other within)
-      ∙ map-append (λ (line : Bor (List ℕ)). line.now) (take place items)
-      (get_or items place other ∷ [])
+  next =
+      rw (take_more items place other within)
+      (map-append (λ (line : Bor (List ℕ)). line.now) (take place items)
+      (get_or items place other ∷ []))
 
   here : 1 + length (texts_of (take place items)) ≡ number + 1
   here =
@@ -70,10 +68,7 @@ module _ (algorithm : Algorithm) (items : List (Bor (List ℕ))) (place number :
       → (before after : List X) → before ≡ from 1 (texts_of (take place items))
       → after ≡ before ++ at (number + 1) text → after ≡ from 1 (texts_of (take (place + 1) items))
   from_more at from none more before after e h =
-      h ∙ (ap (λ t. t ++ at (number + 1) text) e
-      ∙ (ap (λ n. from 1 (texts_of (take place items)) ++ at n text) (sym here)
-      ∙ (sym (from-snoc at from none more 1 (texts_of (take place items)) text)
-      ∙ ap (from 1) (sym next))))
+      rw (next, from-snoc at from none more 1 (texts_of (take place items)) text, here, ← e) h
 
   pub malformed_more : (before after : List ℕ)
       → before ≡ malformed_from algorithm 1 (texts_of (take place items))
@@ -102,10 +97,8 @@ pub all_read : (manifest : Manifest) (items : List (Bor (List ℕ))) (place : �
 unfolding listing_of
 all_read manifest items place malformed files result past lines e f is =
     let all : texts_of (take place items) ≡ lines_of manifest.text =
-    ap texts_of (take_all place items past) ∙ lines in
-    is ∙ (ap (λ m. listing_by manifest m files) (e ∙ ap (malformed_from manifest.algorithm 1) all)
-    ∙ ap (λ f. listing_by manifest (malformed_from manifest.algorithm 1 (lines_of manifest.text)) f)
-    (f ∙ ap (numbered_from manifest.algorithm 1) all))
+    rw (take_all place items past) lines in
+    rw (is, e, f, all)
 
 -- ---- the manifests
 
@@ -128,28 +121,10 @@ module _ (kind : Kind) (files : List FileFact) (f0 f1 f2 f3 f4 : List NumberedLi
   abbrev listed : Algorithm → List NumberedListing
   listed algorithm = map listing_of (manifest_at kind algorithm files)
 
-  all_four : (a b c d : List Manifest)
-      → map listing_of (a ++ (b ++ (c ++ (d ++ []))))
-      ≡ map listing_of a ++ (map listing_of b ++ (map listing_of c ++ map listing_of d))
-  all_four a b c d =
-      rw (
-        append-nil d,
-        map-append listing_of a (b ++ (c ++ d)),
-        map-append listing_of b (c ++ d),
-        map-append listing_of c d,
-      ) refl
-
   pub kind_read : f1 ≡ f0 ++ listed Md5 → f2 ≡ f1 ++ listed Sha1 → f3 ≡ f2 ++ listed Sha256
       → f4 ≡ f3 ++ listed Sha512 → f4 ≡ f0 ++ map listing_of (manifests_of_kind kind files)
   unfolding manifests_of_kind
-  kind_read e1 e2 e3 e4 =
-      e4 ∙ (ap (λ t. t ++ listed Sha512) (e3 ∙ ap (λ t. t ++ listed Sha256)
-      (e2 ∙ ap (λ t. t ++ listed Sha1) e1))
-      ∙ (append_assoc ((f0 ++ listed Md5) ++ listed Sha1) (listed Sha256) (listed Sha512)
-      ∙ (append_assoc (f0 ++ listed Md5) (listed Sha1) (listed Sha256 ++ listed Sha512)
-      ∙ (append_assoc f0 (listed Md5) (listed Sha1 ++ (listed Sha256 ++ listed Sha512))
-      ∙ ap (λ t. f0 ++ t) (sym (all_four (manifest_at kind Md5 files) (manifest_at kind Sha1 files)
-      (manifest_at kind Sha256 files) (manifest_at kind Sha512 files)))))))
+  kind_read e1 e2 e3 e4 = rw (e4, e3, e2, e1) (simp (map-append, append-nil, append_assoc))
 
 pub kinds_read : (files : List FileFact) (empty between after : List NumberedListing) → empty ≡ []
     → between ≡ empty ++ map listing_of (manifests_of_kind Payload files)
@@ -157,8 +132,4 @@ pub kinds_read : (files : List FileFact) (empty between after : List NumberedLis
     → after ≡ listings_of files
 unfolding listings_of manifests_of
 kinds_read files empty between after none payload tags =
-    tags ∙ (ap (λ t. t ++ map listing_of (manifests_of_kind Tag files))
-    (payload ∙ ap (λ t. t ++ map listing_of (manifests_of_kind Payload files)) none)
-    ∙ (sym (map-append listing_of (manifests_of_kind Payload files) (manifests_of_kind Tag files))
-    ∙ ap (λ ms. map listing_of (manifests_of_kind Payload files ++ ms))
-    (sym (append-nil (manifests_of_kind Tag files)))))
+    rw (tags, payload, none) (simp (map-append, append-nil))

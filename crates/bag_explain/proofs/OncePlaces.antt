@@ -7,14 +7,7 @@ use Rattle.bag_text.specs.Lines.{lines_of}
 use Rattle.bag_text.specs.Readers.{declaration_of}
 use Rattle.bag_tree.specs.Facts.{FileFact, TreeFacts}
 use Rattle.bag_check.specs.declared.fault.BagFault.{BagFault}
-use Rattle.bag_check.specs.declared.fault.BagFault.TheVariants.{NoDeclaration, BadDeclaration}
-use Rattle.bag_check.specs.declared.fault.BagFault.TheVariants.{UnsupportedVersion}
-use Rattle.bag_check.specs.declared.fault.BagFault.TheVariants.{UnsupportedEncoding}
-use Rattle.bag_check.specs.declared.fault.BagFault.TheVariants.{HasFetch, NoPayloadFolder}
-use Rattle.bag_check.specs.declared.fault.BagFault.TheVariants.{NoSha512Manifest, UnknownAlgorithm}
-use Rattle.bag_check.specs.declared.fault.BagFault.TheVariants.{MalformedLine, UnsafePath}
-use Rattle.bag_check.specs.declared.fault.BagFault.TheVariants.{DuplicateEntry, MissingFile}
-use Rattle.bag_check.specs.declared.fault.BagFault.TheVariants.{UnlistedFile, WrongDigest, Memory}
+use Rattle.bag_check.specs.declared.fault.BagFault.TheVariants as faults
 use Rattle.bag_check.specs.Manifests.{Manifest, is_unknown}
 use Rattle.bag_check.specs.Check.{holds, declaration_in, is_astray, is_missing, is_wrong}
 use Rattle.bag_check.specs.Check.{is_unlisted}
@@ -137,33 +130,28 @@ module _ (facts : TreeFacts) (apart : Pairs HaveOtherPaths facts.files) where
   -- each fault has no place twice
   once_in : (fault : BagFault) → Once (places_of fault facts)
   unfolding places_of listing_of
-  once_in NoDeclaration = one_place (holds NoDeclaration facts) _
-  once_in BadDeclaration = declared_once (declaration_in facts)
-  once_in UnsupportedVersion = one_place (holds UnsupportedVersion facts) _
-  once_in UnsupportedEncoding = one_place (holds UnsupportedEncoding facts) _
-  once_in HasFetch = one_place (holds HasFetch facts) _
-  once_in NoPayloadFolder = one_place (holds NoPayloadFolder facts) _
-  once_in NoSha512Manifest = one_place (holds NoSha512Manifest facts) _
-  once_in UnknownAlgorithm = unknown_once
-  once_in MalformedLine =
+  once_in faults.BadDeclaration = declared_once (declaration_in facts)
+  once_in faults.UnknownAlgorithm = unknown_once
+  once_in faults.MalformedLine =
       of_manifests malformed_places facts.files malformed_once
       (λ manifest. all_named always (λ line. at_line (name_in manifest) line) (name_in manifest)
       (λ line. refl) (listing_of manifest).malformed)
-  once_in UnsafePath =
+  once_in faults.UnsafePath =
       entries_once (λ listing entry. is_astray listing.kind entry.file) entry_place
       (λ listing entry. refl) (λ listing entry. refl)
-  once_in DuplicateEntry =
+  once_in faults.DuplicateEntry =
       of_manifests repeated_places facts.files repeated_once repeated_named
-  once_in MissingFile =
+  once_in faults.MissingFile =
       entries_once (λ listing entry. is_missing facts.files entry.file) entry_place
       (λ listing entry. refl) (λ listing entry. refl)
-  once_in UnlistedFile =
+  once_in faults.UnlistedFile =
       of_manifests (unlisted_places facts.files) facts.files (unlisted_once facts apart)
       (unlisted_named facts apart)
-  once_in WrongDigest =
+  once_in faults.WrongDigest =
       entries_once (λ listing entry. is_wrong listing.algorithm facts.files entry.file) digest_place
       (λ listing entry. refl) (λ listing entry. refl)
-  once_in Memory = tt
+  once_in faults.Memory = tt
+  once_in fault = one_place (holds fault facts) _
 
 -- where each file of the tree has a path of its own, no place of a fault comes twice
 pub places_once : (fault : BagFault) (facts : TreeFacts)

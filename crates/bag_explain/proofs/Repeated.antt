@@ -1,7 +1,7 @@
 -- What a manifest lists, one entry on.
 use Rattle.std.proofs.Common.{◌≡◌, ℕ, ◌+◌, ◌<◌, ◌≤◌, Bool, true, false, not, ◌||◌, List, [], ◌∷◌}
 use Rattle.std.proofs.Common.{◌++◌, length, take, get_or, refl, sym, ap, ◌∙◌, append_assoc}
-use Rattle.std.proofs.Common.{append-nil, subst}
+use Rattle.std.proofs.Common.{append-nil}
 use Rattle.std.specs.List.{flat_map}
 use Rattle.std.specs.Str.{bytes_eq}
 use Rattle.std.proofs.lemmas.Grind.{flat_map-append}
@@ -14,7 +14,7 @@ use Rattle.bag_check.specs.Check.{repeats}
 use Rattle.bag_check.proofs.Repeats.{listed-more, repeats-snoc}
 use Rattle.bag_explain.specs.Lines.{NumberedFile}
 use Rattle.bag_explain.specs.Listings.{NumberedListing}
-use Rattle.bag_explain.specs.Places.{Place, when, files_in, repeated_after, repeated_at}
+use Rattle.bag_explain.specs.Places.{when, files_in, repeated_after, repeated_at}
 use Rattle.bag_explain.specs.Findings.{printed_places, has_some}
 use Rattle.bag_explain.proofs.FaultLines.{after_both, printed-append}
 
@@ -28,39 +28,30 @@ pub repeated_after-snoc : (before : List ListedFile) (entries : List NumberedFil
     → repeated_after before (entries ++ entry ∷ []) ≡ repeated_after before entries
     ++ when (is_listed entry.file.path (before ++ files_in entries)) (entry ∷ [])
 unfolding repeated_after
-repeated_after-snoc before [] entry =
-    append-nil (when (is_listed entry.file.path before) (entry ∷ []))
-    ∙ ap (λ (fs : List ListedFile). when (is_listed entry.file.path fs) (entry ∷ []))
-    (sym (append-nil before))
+repeated_after-snoc before [] entry = simp append-nil
 repeated_after-snoc before (first ∷ entries) entry =
-    let here = when (is_listed first.file.path before) (first ∷ []) in
-    let there = repeated_after (before ++ first.file ∷ []) entries in
-    ap (λ t. here ++ t) (repeated_after-snoc (before ++ first.file ∷ []) entries entry)
-    ∙ (sym (append_assoc here there
-    (when (is_listed entry.file.path ((before ++ first.file ∷ []) ++ files_in entries))
-    (entry ∷ [])))
-    ∙ ap (λ (fs : List ListedFile).
-    (here ++ there) ++ when (is_listed entry.file.path fs) (entry ∷ []))
-    (append_assoc before (first.file ∷ []) (files_in entries)))
+    rw (
+      repeated_after-snoc (before ++ first.file ∷ []) entries entry,
+      append_assoc before (first.file ∷ []) (files_in entries),
+      append_assoc,
+    )
 
 module _ (entries : List NumberedFile) (place : ℕ) (entry : NumberedFile)
     (within : place < length entries) (is : entry ≡ get_or entries place entry) where
   next : take (place + 1) entries ≡ take place entries ++ entry ∷ []
-  next = take_more entries place entry within ∙ ap (λ e. take place entries ++ e ∷ []) (sym is)
+  next = rw (take_more entries place entry within, ← is)
 
   pub listed_next : (q : List ℕ)
       → is_listed q (files_in (take (place + 1) entries))
       ≡ (bytes_eq entry.file.path q || is_listed q (files_in (take place entries)))
   listed_next q =
-      ap (λ es. is_listed q (files_in es)) next
-      ∙ (ap (is_listed q) (files_in-append (take place entries) (entry ∷ []))
-      ∙ listed-more q (files_in (take place entries)) entry.file)
+      rw (next, files_in-append (take place entries) (entry ∷ []))
+      (listed-more q (files_in (take place entries)) entry.file)
 
   repeated_next : repeated_after [] (take (place + 1) entries)
       ≡ repeated_after [] (take place entries)
       ++ when (is_listed entry.file.path (files_in (take place entries))) (entry ∷ [])
-  repeated_next = ap (repeated_after []) next
-      ∙ repeated_after-snoc [] (take place entries) entry
+  repeated_next = rw next (repeated_after-snoc [] (take place entries) entry)
 
 places_when : (listing : NumberedListing) (entry : NumberedFile) (test : Bool)
     → flat_map (repeated_at listing) (when test (entry ∷ []))
@@ -88,30 +79,22 @@ module _ (listing : NumberedListing) (items : List NumberedFile) (place : ℕ)
       let upto = repeated_after [] (take place listing.files) in
       let listed_before = is_listed entry.file.path (files_in (take place listing.files)) in
       let here = when listed_before (entry ∷ []) in
-      after_both start (printed_places DuplicateEntry (flat_map (repeated_at listing) upto))
-      (printed_places DuplicateEntry (flat_map (repeated_at listing) here)) before after so_far
-      (now ∙ (ap (λ (t : Bool). before ++ printed_places DuplicateEntry
-      (when t (repeated_at listing entry))) listed
-      ∙ ap (λ (ps : List Place). before ++ printed_places DuplicateEntry ps)
-      (sym (places_when listing entry
-      (is_listed entry.file.path (files_in (take place listing.files)))))))
-      ∙ ap (λ (t : List ℕ). start ++ t)
-      (sym (printed-append DuplicateEntry (flat_map (repeated_at listing) upto)
-      (flat_map (repeated_at listing) here))
-      ∙ ap (λ (ps : List Place). printed_places DuplicateEntry ps)
-      (sym (flat_map-append (repeated_at listing) upto here)
-      ∙ ap (λ (es : List NumberedFile). flat_map (repeated_at listing) es)
-      (sym (repeated_next listing.files place entry
-      (subst (λ es. place < length es) same within)
-      (subst (λ es. entry ≡ get_or es place entry) same is)))))
+      rw (
+        repeated_next listing.files place entry (rw same at within) (rw same at is),
+        flat_map-append (repeated_at listing) upto here,
+        printed-append DuplicateEntry (flat_map (repeated_at listing) upto)
+            (flat_map (repeated_at listing) here),
+        places_when listing entry listed_before,
+        ← listed,
+      )
+      (after_both start (printed_places DuplicateEntry (flat_map (repeated_at listing) upto))
+      (printed_places DuplicateEntry (when test (repeated_at listing entry))) before after so_far
+      now)
 
   pub repeated_all : length items ≤ place
       → before ≡ start ++ printed_places DuplicateEntry (flat_map (repeated_at listing)
       (repeated_after [] listing.files))
-  repeated_all past = so_far
-      ∙ ap (λ es. start ++ printed_places DuplicateEntry (flat_map (repeated_at listing)
-      (repeated_after [] es)))
-      (take_all place listing.files (subst (λ es. length es ≤ place) same past))
+  repeated_all past = rw (take_all place listing.files (rw same at past)) at so_far
 
 -- ---- a path is listed twice where an entry is repeated
 
@@ -125,12 +108,13 @@ pub repeats_after : (before : List ListedFile) (entries : List NumberedFile)
     → repeats (before ++ files_in entries)
     ≡ (repeats before || has_some (repeated_after before entries))
 unfolding repeated_after
-repeats_after before [] =
-    ap repeats (append-nil before) ∙ sym (or-false (repeats before))
+repeats_after before [] = rw (append-nil, or-false)
 repeats_after before (entry ∷ entries) =
     let more = before ++ entry.file ∷ [] in
-    ap repeats (sym (append_assoc before (entry.file ∷ []) (files_in entries)))
-    ∙ (repeats_after more entries
-    ∙ (ap (λ t. t || has_some (repeated_after more entries)) (repeats-snoc before entry.file)
-    ∙ once_more (repeats before) (is_listed entry.file.path before)
-    (has_some (repeated_after more entries)) entry (repeated_after more entries) refl))
+    rw (
+      ← append_assoc before (entry.file ∷ []) (files_in entries),
+      repeats_after more entries,
+      repeats-snoc before entry.file,
+    )
+    (once_more (repeats before) (is_listed entry.file.path before)
+    (has_some (repeated_after more entries)) entry (repeated_after more entries) refl)

@@ -3,14 +3,12 @@ use Rattle.std.proofs.Common.{◌≡◌, ◌<◌, [], refl, sym, ◌∙◌, subs
 use Rattle.std.specs.List.{flat_map}
 use Rattle.bag_tree.specs.Facts.{TreeFacts}
 use Rattle.bag_check.specs.declared.fault.BagFault.TheVariants.{DuplicateEntry}
-use Rattle.bag_check.specs.Manifests.{manifest_name}
 use Rattle.bag_explain.specs.Lines.{NumberedFile}
 use Rattle.bag_explain.specs.Listings.{listing_of, listings_of}
 use Rattle.bag_explain.specs.Places.{Place, at_entry, entry_place, repeated_after, repeated_at}
 use Rattle.bag_explain.specs.Places.{repeated_places}
 use Rattle.bag_explain.specs.Wrong.{IsWrongAt}
-use Rattle.bag_explain.proofs.Members.{In, in_one, in_some, some_in}
-use Rattle.bag_explain.proofs.Members.{in_payload, payload_in}
+use Rattle.bag_explain.proofs.Members.{In, in_one, in_some, some_in, in_payload, payload_in}
 use Rattle.bag_explain.proofs.EarlierEntries.{IsBefore, repeated_before, before_repeated}
 use Rattle.bag_explain.proofs.ListedEntries.{entry_listed, listed_entry, of_manifest, manifest_of}
 use Rattle.bag_explain.proofs.ListedEntries.{entries_rise}
@@ -52,8 +50,6 @@ module _ (facts : TreeFacts) where
       let listing = listing_of manifest in
       let again = repeated_after [] listing.files in
       let entry : NumberedFile = record { line = line; file = file } in
-      let e : at_entry file.path (manifest_name manifest.kind manifest.algorithm) line
-      ≡ at_entry path name line = cc in
       let before : IsBefore [] listing.files entry =
       inr (first, listed_entry manifest first earlier, path_of_it ∙ sym same, below) in
       manifest_of repeated_places facts.files (at_entry path name line) manifest c
@@ -61,5 +57,5 @@ module _ (facts : TreeFacts) where
       payload
       (some_in (repeated_at listing) again entry (at_entry path name line)
       (before_repeated [] listing.files 1 entry (entries_rise manifest)
-      (listed_entry manifest entry lists) before) (inl e)))
+      (listed_entry manifest entry lists) before) (inl cc)))
   is_repeated_there place h = absurd h

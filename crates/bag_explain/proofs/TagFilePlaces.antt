@@ -19,7 +19,7 @@ pub one_place : (test : Bool) (here place : Place)
     → In place (when test (here ∷ [])) ↔ ((test ≡ true) × (place ≡ here))
 one_place test here place = (
   λ h. let (passed, is) = in_when test here place h in (passed, sym is),
-  λ h. subst (λ p. In p (when test (here ∷ []))) (sym h.1) (when_in test here h.0),
+  λ h. rw (h.1) (when_in test here h.0),
 )
 
 -- ---- the line of the declaration
@@ -43,8 +43,7 @@ declared_line (Some text) place h = go (declaration_of text) refl h
 pub line_declared : (declaration : Option (List ℕ)) (place : Place) → IsFaultyLine declaration place
     → In place (faulty_lines declaration)
 line_declared declaration place (text, line, e, read, is) =
-    subst (λ d. In place (faulty_lines d)) (sym e)
-    (subst (λ r. In place (faulty_line r)) (sym read) (inl (sym is)))
+    rw (e, read) (inl (sym is))
 
 module _ (facts : TreeFacts) where
   -- ---- a manifest of an algorithm that isn't read

@@ -1,7 +1,6 @@
 -- The files that are found to be unlisted are those that a payload manifest leaves out.
-use Rattle.std.proofs.Common.{◌≡◌, true, List, refl, sym, subst}
+use Rattle.std.proofs.Common.{◌≡◌, true, refl, subst}
 use Rattle.std.specs.List.{flat_map}
-use Rattle.bag_text.specs.ListedFile.{ListedFile}
 use Rattle.bag_tree.specs.Facts.{TreeFacts}
 use Rattle.bag_check.specs.declared.fault.BagFault.TheVariants.{UnlistedFile}
 use Rattle.bag_check.specs.Manifests.{manifest_name}
@@ -10,9 +9,8 @@ use Rattle.bag_explain.specs.Listings.{listing_of, listings_of}
 use Rattle.bag_explain.specs.Places.{Place, at_unlisted, files_in, name_of, of_payload}
 use Rattle.bag_explain.specs.Places.{unlisted_at, unlisted_places}
 use Rattle.bag_explain.specs.Wrong.{IsWrongAt}
-use Rattle.bag_explain.proofs.Members.{In, contained_in, in_contained, in_some, some_in}
-use Rattle.bag_explain.proofs.Members.{in_when, when_in, in_unless, unless_in}
-use Rattle.bag_explain.proofs.Members.{in_payload, payload_in}
+use Rattle.bag_explain.proofs.Members.{In, contained_in, in_contained, in_some, some_in, in_when}
+use Rattle.bag_explain.proofs.Members.{when_in, in_unless, unless_in, in_payload, payload_in}
 use Rattle.bag_explain.proofs.ListedEntries.{of_manifest, manifest_of, all_listed, listed_all}
 
 module _ (facts : TreeFacts) where
@@ -42,7 +40,7 @@ module _ (facts : TreeFacts) where
         read,
         in_contained facts.files file there,
         refl,
-        subst (λ (fs : List ListedFile). is_unlisted fs file ≡ true) same unlisted,
+        rw same at unlisted,
       )
 
   -- and the place of a file left out is found
@@ -57,13 +55,13 @@ module _ (facts : TreeFacts) where
       let e : at_unlisted file.path (manifest_name manifest.kind manifest.algorithm)
       ≡ at_unlisted path name = cc in
       let test : is_unlisted (files_in listing.files) file ≡ true =
-      subst (λ (fs : List ListedFile). is_unlisted fs file ≡ true) (sym are) unlisted in
+      rw are unlisted in
       manifest_of (unlisted_places facts.files) facts.files (at_unlisted path name) manifest c
       (unless_in listing.malformed (of_payload listing.kind places) (at_unlisted path name) sound
       (payload_in listing.kind places (at_unlisted path name) payload
       (some_in (unlisted_at listing) facts.files file (at_unlisted path name)
       (contained_in facts.files file there)
-      (subst (λ p. In p (unlisted_at listing file)) e
+      (rw (← e)
       (when_in (is_unlisted (files_in listing.files) file)
       (at_unlisted file.path (name_of listing)) test)))))
   is_unlisted_there place h = absurd h

@@ -8,7 +8,7 @@ use Rattle.bag_check.specs.declared.fault.BagFault.{BagFault}
 use Rattle.bag_check.specs.Check.{all_faults}
 use Rattle.bag_check.specs.Complete.{gaps}
 use Rattle.bag_check.specs.Fault.{number_of}
-use Rattle.words.specs.Escapes.{escaped_text}
+use Rattle.tokens.specs.Escapes.{escaped_text}
 use Rattle.bag_explain.specs.Places.{Place, at_file, at_line, at_entry, at_digest, at_unlisted}
 use Rattle.bag_explain.specs.Places.{places_of}
 

@@ -5,7 +5,7 @@ ghost use Rattle.std.specs.List.{flat_map};
 ghost use Rattle.std.specs.BTreeSet.{contains_by};
 ghost use Rattle.bag_tree.specs.Path.{is_payload};
 ghost use Rattle.bag_check.specs.Manifests.{is_listed};
-ghost use Rattle.words.specs.Pushes.{Pushes};
+ghost use Rattle.tokens.specs.Pushes.{Pushes};
 ghost use Rattle.bag_explain.specs.Places.{when, at_unlisted, files_in, repeated_at, unlisted_at};
 ghost use Rattle.bag_explain.specs.Places.{malformed_places, repeated_places, unlisted_places};
 ghost use Rattle.bag_explain.specs.Places.{repeated_after};

@@ -1,5 +1,5 @@
 ghost use Rattle.std.specs.Prelude.{[], ◌∷◌};
-ghost use Rattle.words.specs.Pushes.{Pushes};
+ghost use Rattle.tokens.specs.Pushes.{Pushes};
 ghost use Rattle.bag_explain.specs.Places.{when, entry_place, digest_place};
 ghost use Rattle.bag_explain.specs.Findings.{printed_places};
 ghost use Rattle.bag_explain.specs.inner.Stages.{entry_fault_of, faulty_at};

@@ -1,15 +1,15 @@
 ghost use Rattle.std.specs.Prelude.{◌∷◌, ◌++◌};
 ghost use Rattle.std.specs.Fmt.{decimal};
 ghost use Rattle.bag_check.specs.Fault.{number_of};
-ghost use Rattle.words.specs.Escapes.{escaped_text};
-ghost use Rattle.words.specs.Pushes.{Pushes};
+ghost use Rattle.tokens.specs.Escapes.{escaped_text};
+ghost use Rattle.tokens.specs.Pushes.{Pushes};
 ghost use Rattle.bag_explain.specs.Places.{at_file, at_line, at_entry, at_digest, at_unlisted};
 ghost use Rattle.bag_explain.specs.Findings.{printed_fault};
 
 use bag_check::BagFault;
 use bag_text::Algorithm;
 use std::alloc::AllocError;
-use words::push_escaped;
+use tokens::push_escaped;
 
 /// Appends the line of a fault of the file of this path.
 pub(crate) fn push_file(text: &mut String, fault: BagFault, path: &str) -> Result<(), AllocError>

@@ -4,7 +4,7 @@ ghost use Rattle.bag_text.specs.Readers.{declaration_of};
 ghost use Rattle.bag_check.specs.Check.{holds, is_supported_version, is_supported_encoding};
 ghost use Rattle.bag_check.specs.Check.{declares_other};
 ghost use Rattle.bag_check.specs.Manifests.{text_at, is_unknown};
-ghost use Rattle.words.specs.Pushes.{Pushes};
+ghost use Rattle.tokens.specs.Pushes.{Pushes};
 ghost use Rattle.bag_explain.specs.Places.{when, at_file, at_line, faulty_line};
 ghost use Rattle.bag_explain.specs.Places.{places_of};
 ghost use Rattle.bag_explain.specs.Findings.{printed_places};

@@ -1,7 +1,7 @@
 -- What was taken of a reader so far, one piece after another.
 use Rattle.std.proofs.Common.{◌≡◌, ℕ, ◌<◌, Bool, true, false, ◌&&◌, cond, nat_lt, List, [], ◌++◌}
-use Rattle.std.proofs.Common.{length, append-nil, take, subst, arith, Option, Some, None, Result}
-use Rattle.std.proofs.Common.{Ok, Err, IfSome, refl, sym, ap, ◌∙◌, inl, inr}
+use Rattle.std.proofs.Common.{length, append-nil, take, arith, Option, Some, None, Result, Ok, Err}
+use Rattle.std.proofs.Common.{IfSome, refl, sym, ap, ◌∙◌, inl, inr}
 use Rattle.std.proofs.lemmas.Bool.{ltb-true, lt-ltb}
 use Rattle.std.proofs.lemmas.List.{length-append}
 use Rattle.std.proofs.lemmas.Option.{cond_some}
@@ -9,16 +9,13 @@ use Rattle.std.specs.Prelude.{IfErr, IsErrAnd, IsErrOf}
 use Rattle.std.specs.Io.KnownBytes.{Consumes, Keeps, IsAtEnd}
 use Rattle.std.proofs.KnownBytes.{Consumes-trans, Consumes-kept}
 use Rattle.bag_tree.specs.declared.fault.TreeFault.{TreeFault}
-use Rattle.bag_tree.specs.declared.fault.TreeFault.TheVariants.{Listing, NotAFile, TooDeep, TooMany}
-use Rattle.bag_tree.specs.declared.fault.TreeFault.TheVariants.{TextTooLong, Device, Memory}
-use Rattle.bag_tree.specs.declared.fault.TreeFault.TheVariants.{BadPath}
+use Rattle.bag_tree.specs.declared.fault.TreeFault.TheVariants.{TextTooLong, Memory}
 use Rattle.bag_tree.specs.Facts.{FileFact, fact_by}
 use Rattle.bag_tree.specs.Fault.{RefusesFor}
 use Rattle.bag_tree.specs.Path.{is_read_text}
 use Rattle.bag_tree.specs.Tree.{File, longest_text, fault_of_text}
 use Rattle.bag_tree.specs.declared.algorithms.Algorithms.{Algorithms}
-use Rattle.bag_folders.specs.Pieces.{Hashed, with_piece, hashed_with}
-use Rattle.bag_folders.specs.Pieces.{IsReadFault}
+use Rattle.bag_folders.specs.Pieces.{Hashed, with_piece, hashed_with, IsReadFault}
 
 -- the file that is hashed has this path, its bytes are what the reader gave since it had these, and
 -- it fits
@@ -42,7 +39,7 @@ pub taken_end : (file : File) (path : List ℕ) (had has now : Option (List ℕ)
     → Consumes has now (take count room) × (count ≡ 0 → 0 < length room → IsAtEnd now)
     → IfSome had (λ all. all ≡ file.bytes)
 taken_end file path had has now count room t e l p =
-    whole file had has now t.gave (subst (λ n. Consumes has now (take n room)) e p.0) (p.1 e l)
+    whole file had has now t.gave (rw e at p.0) (p.1 e l)
 
 -- so the facts of that file are those of all that the reader had, which fits
 pub taken_facts : (hashed : Hashed) (wanted : Algorithms) (path : List ℕ)
@@ -66,10 +63,10 @@ pub taken_more : (file fed : File) (path : List ℕ) (had has now : Option (List
     → fed ≡ with_piece file piece → fault_of_text file.path (file.bytes ++ piece) ≡ None
     → Taken fed path had now
 taken_more file fed path had has now piece t c e fits =
-    subst (λ f. Taken f path had now) (sym e) (record {
+    rw e (record {
       named = t.named;
       gave = Consumes-trans had has now file.bytes piece t.gave c;
-      fits = subst (λ p. fault_of_text p (file.bytes ++ piece) ≡ None) t.named fits;
+      fits = rw t.named at fits;
     })
 
 -- the same of what is hashed, and of what is wanted of it
@@ -81,7 +78,7 @@ pub hashed_more : (hashed fed : Hashed) (wanted : Algorithms) (path : List ℕ)
     → Taken fed.file path had now × (fed.wanted ≡ wanted)
 hashed_more hashed fed wanted path had has now piece t c e fits = (
   taken_more hashed.file fed.file path had has now piece t.0 c (ap (λ h. h.file) e) fits,
-  ap (λ h. h.wanted) e ∙ t.1,
+  rw e t.1,
 )
 
 -- a read failed, and none of the bytes was lost
@@ -95,8 +92,8 @@ taken_kept file path had has now t k =
 longer-stays : (bytes more : List ℕ) → nat_lt longest_text (length bytes) ≡ true
     → nat_lt longest_text (length (bytes ++ more)) ≡ true
 longer-stays bytes more h =
-    lt-ltb longest_text (length (bytes ++ more)) (let l = ltb-true longest_text (length bytes) h in
-    let e = length-append bytes more in omega arith)
+    let less = ltb-true longest_text (length bytes) h in
+    lt-ltb longest_text (length (bytes ++ more)) (omega (arith, less, length-append bytes more))
 
 too_long-longer : (path bytes more : List ℕ) → fault_of_text path bytes ≡ Some TextTooLong
     → fault_of_text path (bytes ++ more) ≡ Some TextTooLong
@@ -118,10 +115,7 @@ pub refused_too_long : (file : File) (path piece : List ℕ) (had has now : Opti
     → fault ≡ TextTooLong → IfSome had (λ all. fault_of_text path all ≡ Some TextTooLong)
 refused_too_long file path piece had has now fault t d h e =
     go had now (Consumes-trans had has now file.bytes piece t.gave d)
-    (subst (λ p. RefusesFor {T = Unit {0}} (fault_of_text p (file.bytes ++ piece))
-    (Err TextTooLong)) t.named
-    (subst (λ f. RefusesFor {T = Unit {0}} (fault_of_text file.path (file.bytes ++ piece)) (Err f))
-    e h))
+    (rw t.named at (rw e at h))
   where
     go : (had now : Option (List ℕ)) → Consumes had now (file.bytes ++ piece)
         → fault_of_text path (file.bytes ++ piece) ≡ Some TextTooLong
@@ -142,13 +136,8 @@ refused_as path bytes fault h =
         → ((fault : TreeFault) → found ≡ Some fault → fault ≡ TextTooLong)
         → (fault : TreeFault) → RefusesFor {T = Unit {0}} found (Err fault) → IsReadFault fault
     go found only Memory h = inr (inr refl)
-    go found only Listing h = inl (only Listing h)
-    go found only NotAFile h = inl (only NotAFile h)
-    go found only TooDeep h = inl (only TooDeep h)
-    go found only TooMany h = inl (only TooMany h)
     go found only TextTooLong h = inl refl
-    go found only Device h = inl (only Device h)
-    go found only BadPath h = inl (only BadPath h)
+    go found only other h = inl (only other h)
 
 -- ---- a fault that is passed on
 

@@ -1,5 +1,5 @@
 use crate::folders::Folders;
-use crate::walk::read_bare;
+use crate::read_listed::read_bare;
 use crate::watcher::Watcher;
 use bag_check::BagFault;
 use bag_tree::{Facts, TreeFault};

@@ -1,5 +1,5 @@
 use crate::folders::Folders;
-use crate::walk::{Reading, read_watched};
+use crate::read_listed::{Reading, read_watched};
 use crate::watcher::{Silent, Watcher};
 use bag_check::BagFault;
 use bag_tree::{Facts, TreeFault};

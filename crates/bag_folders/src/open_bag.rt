@@ -35,7 +35,8 @@ pub(crate) struct OpenBag<'a, R: Files + AllocGlobal + Clone + Drop> {
     /// Whether the system shows what is open as files, so that a file is opened in its open folder,
     /// whatever that folder's path leads to by now. Else it is opened by its path.
     shows_open: bool,
-    /// The way to the folder of the last file. The files of a folder are listed one after the other.
+    /// The way to the folder of the last file. The files of a folder are listed one after the
+    /// other.
     way: FolderWay,
 }
 

@@ -5,7 +5,7 @@ ghost use Rattle.bag_tree.specs.Tree.{fault_of_text};
 ghost use Rattle.bag_folders.specs.Disk.{IsFactBy};
 ghost use Rattle.bag_folders.specs.Pieces.{IsReadFault, most_reads};
 
-use crate::hash_state::Hashing;
+use crate::hashing::Hashing;
 use crate::watched_file::WatchedFile;
 use crate::watcher::Watcher;
 use bag_tree::{Algorithms, FileFacts, TreeFault};

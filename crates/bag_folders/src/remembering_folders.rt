@@ -9,9 +9,9 @@ use crate::folder_listing::FolderListing;
 use crate::folders::Folders;
 use crate::list_sum::ListSum;
 use crate::now::Now;
+use crate::read_listed::{Reading, list_within, open_bag, read_listed};
 use crate::refusals::{Reason, Refusal, Refusals};
 use crate::refused_bag::bag_refused_for;
-use crate::walk::{Reading, list_within, open_bag, read_listed};
 use crate::watcher::Silent;
 use crate::weighed::WeighedFolders;
 use crate::weight::short_list;
@@ -58,8 +58,8 @@ impl<R: Files + Clock + AllocGlobal + Clone + Drop> RememberingFolders<R> {
         }
     }
 
-    // The facts of a folder by the list for which it was weighed a moment ago. If it can't be read by
-    // that, it may have been exchanged since then: it is to be listed again.
+    // The facts of a folder by the list for which it was weighed a moment ago. If it can't be read
+    // by that, it may have been exchanged since then: it is to be listed again.
     fn read_weighed(&mut self, path: &str, now: Option<Now>) -> Option<Facts>
         ensures { IfSome result IsKnownOrRefused }
     {
@@ -163,9 +163,9 @@ impl<R: Files + Clock + AllocGlobal + Clone + Drop> Folders for RememberingFolde
     }
 }
 
-// The facts of a folder, whose files are read unless a refusal of their list is remembered. They are
-// listed, unless a list is given. If they are read, the list is noted, provided that it can be told
-// from that of later files.
+// The facts of a folder, whose files are read unless a refusal of their list is remembered. They
+// are listed, unless a list is given. If they are read, the list is noted, provided that it can be
+// told from that of later files.
 fn read_or_recall<R: Files + Clock + AllocGlobal + Clone + Drop>(
     rt: &R,
     path: &str,

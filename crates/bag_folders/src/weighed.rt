@@ -37,8 +37,8 @@ impl WeighedFolders {
         }
     }
 
-    /// The folder of this path was listed at this moment. If there is no memory to keep the list, the
-    /// folder is listed again.
+    /// The folder of this path was listed at this moment. If there is no memory to keep the list,
+    /// the folder is listed again.
     pub(crate) fn add(&self, path: &str, listing: FolderListing, moment: u64) {
         if let Ok(mut kept) = self.kept.try_borrow_mut() {
             if kept.len() >= MOST_KEPT {

@@ -1,7 +1,7 @@
 //! How much a folder has to read.
 
 use crate::folder_listing::{FolderListing, list_at_most};
-use crate::walk::open_bag;
+use crate::read_listed::open_bag;
 use std::fs::Files;
 
 /// The most files and folders of a folder that is weighed: a longer list takes long by itself.

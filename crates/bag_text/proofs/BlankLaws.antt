@@ -1,7 +1,8 @@
 -- Spaces and tabs at the start of a text and at its end, one byte after the other.
-use Rattle.std.proofs.Common.{◌≡◌, ℕ, Bool, true, false, cond, ◌&&◌, List, [], ◌∷◌, ◌++◌, length}
-use Rattle.std.proofs.Common.{refl, sym, ap, ◌∙◌, arith}
+use Rattle.std.proofs.Common.{◌≡◌, ℕ, Bool, true, false, ◌&&◌, List, [], ◌∷◌, ◌++◌, length}
+use Rattle.std.proofs.Common.{refl, ap, arith}
 use Rattle.std.specs.List.{list_all}
+use Rattle.std.proofs.lemmas.Bool.{and_right}
 use Rattle.bag_text.specs.Blanks.{is_blank}
 use Rattle.bag_text.specs.Readers.{skip_blanks, trim_blanks}
 
@@ -31,37 +32,21 @@ all_blank-other : (front : List ℕ) (byte : ℕ) → is_blank byte ≡ false
     → list_all is_blank (front ++ (byte ∷ [])) ≡ false
 all_blank-other [] byte h = rw h refl
 all_blank-other (x ∷ front) byte h =
-    ap (λ (t : Bool). is_blank x && t) (all_blank-other front byte h) ∙ go (is_blank x)
-  where
-    go : (b : Bool) → (b && false) ≡ false
-    go true = refl
-    go false = refl
+    and_right (is_blank x) (list_all is_blank (front ++ (byte ∷ []))) (all_blank-other front byte h)
 
-trim_blanks-push : (front : List ℕ) (byte : ℕ) → is_blank byte ≡ true
+pub trim_blanks-push : (front : List ℕ) (byte : ℕ) → is_blank byte ≡ true
     → trim_blanks (front ++ (byte ∷ [])) ≡ trim_blanks front
 unfolding trim_blanks
 trim_blanks-push [] byte h = rw h refl
 trim_blanks-push (x ∷ front) byte h =
     rw (all_blank-push front byte h, trim_blanks-push front byte h) refl
 
-trim_blanks-other : (front : List ℕ) (byte : ℕ) → is_blank byte ≡ false
+pub trim_blanks-other : (front : List ℕ) (byte : ℕ) → is_blank byte ≡ false
     → trim_blanks (front ++ (byte ∷ [])) ≡ front ++ (byte ∷ [])
 unfolding trim_blanks
 trim_blanks-other [] byte h = rw h refl
 trim_blanks-other (x ∷ front) byte h =
-    rw (all_blank-other front byte h, trim_blanks-other front byte h) (go (is_blank x))
-  where
-    go : (b : Bool) → cond (b && false) [] (x ∷ (front ++ (byte ∷ []))) ≡ x ∷ (front ++ (byte ∷ []))
-    go true = refl
-    go false = refl
-
-pub trim_blanks-more : (text front : List ℕ) (byte : ℕ) → text ≡ front ++ (byte ∷ [])
-    → is_blank byte ≡ true → trim_blanks text ≡ trim_blanks front
-trim_blanks-more text front byte e h = ap trim_blanks e ∙ trim_blanks-push front byte h
-
-pub trim_blanks-stops : (text front : List ℕ) (byte : ℕ) → text ≡ front ++ (byte ∷ [])
-    → is_blank byte ≡ false → trim_blanks text ≡ text
-trim_blanks-stops text front byte e h = ap trim_blanks e ∙ trim_blanks-other front byte h ∙ sym e
+    rw (all_blank-other (x ∷ front) byte h, trim_blanks-other front byte h) refl
 
 pub trim_blanks-none : (text : List ℕ) → length text ≡ 0 → trim_blanks text ≡ text
 unfolding trim_blanks

@@ -1,6 +1,7 @@
 -- Hex digits: which texts are of whole bytes, and which bytes they are, whatever their case.
-use Rattle.std.proofs.Common.{◌≡◌, ℕ, zero, suc, ◌+◌, ◌*◌, ◌/◌, ◌%◌, ◌<◌, ◌==◌, ◌&&◌, Bool, true, false}
-use Rattle.std.proofs.Common.{inl, inr, List, [], ◌∷◌}
+use Rattle.std.proofs.Common.{◌≡◌, ℕ, ◌+◌, ◌*◌, ◌/◌, ◌%◌, ◌<◌, ◌==◌, Bool, true}
+use Rattle.std.proofs.Common.{false}
+use Rattle.std.proofs.Common.{List, [], ◌∷◌}
 use Rattle.std.proofs.Common.{length, map, slice_index, Option, Some, None, Result, Ok, Err, is_ok}
 use Rattle.std.proofs.Common.{refl, sym, ap, ◌∙◌, arith}
 use Rattle.std.specs.Prelude.{IsTrue, ◌↔◌}
@@ -8,13 +9,13 @@ use Rattle.std.specs.Char.{is_ascii_hexdigit, to_ascii_lowercase}
 use Rattle.std.specs.List.{list_all}
 use Rattle.std.specs.Result.{result_unwrap_or}
 use Rattle.std.specs.Str.{bytes_eq}
-use Rattle.std.proofs.lemmas.Bool.{and_parts, cases_lt, eqb-true}
-use Rattle.std.specs.Bool.{Decides}
+use Rattle.std.proofs.lemmas.Bool.{agree_below_at, eqb-true, false_from_ne_true}
 use Rattle.std.proofs.lemmas.Bool.Decides.{same_from_decides}
 use Rattle.std.proofs.lemmas.Slice.Eq.{bytes_eq-Decides}
 use Rattle.std.proofs.lemmas.List.Sums.{AllPass-from_list_all, list_all-from_AllPass}
 use Rattle.hex.specs.Hex.{IsBytes, decode_of, decode_pairs, digit_or_error, hex_digit_value}
-use Rattle.hex.specs.Hex.{encode_lower, encode_with, is_hex_digit, lower_digits, pair_value, value_at}
+use Rattle.hex.specs.Hex.{encode_lower, encode_with, is_hex_digit, lower_digits, pair_value}
+use Rattle.hex.specs.Hex.{value_at}
 use Rattle.hex.specs.Hex.{◌>>=◌}
 use Rattle.hex.specs.declared.error.FromHexError.{FromHexError}
 use Rattle.hex.proofs.HexLemmas.{decode_of-digits, decode_of-encode_lower, decode_of-even}
@@ -32,19 +33,16 @@ all_digits (c ∷ rest) = rw (same_digits c, all_digits rest) refl
 -- digits of an even number decode, and nothing else of an even length does
 pub even_digits : (s : List ℕ) → length s % 2 ≡ 0
     → list_all is_ascii_hexdigit s ≡ is_ok (decode_of s)
-even_digits s even = go (list_all is_hex_digit s) refl (decode_of s) refl
+even_digits s even = rw (all_digits s) (go (list_all is_hex_digit s) refl (decode_of s) refl)
   where
     go : (all : Bool) → list_all is_hex_digit s ≡ all
-        → (decoded : Result (List ℕ) FromHexError) → decode_of s ≡ decoded
-        → list_all is_ascii_hexdigit s ≡ is_ok (decode_of s)
-    go true e (Ok bytes) d = rw (all_digits s, e, d) refl
-    go false e (Err fault) d = rw (all_digits s, e, d) refl
+        → (decoded : Result (List ℕ) FromHexError) → decode_of s ≡ decoded → all ≡ is_ok decoded
+    go true e (Ok bytes) d = refl
+    go false e (Err fault) d = refl
     go true e (Err fault) d =
-        let found = decode_of-digits s even (AllPass-from_list_all is_hex_digit s e) in
-        absurd (cc (sym d ∙ found.1))
+        absurd (cc (d, (decode_of-digits s even (AllPass-from_list_all is_hex_digit s e)).1))
     go false e (Ok bytes) d =
-        let digits = decode_of-ok s bytes d in
-        absurd (cc (sym e ∙ list_all-from_AllPass is_hex_digit s digits.1))
+        absurd (cc (e, list_all-from_AllPass is_hex_digit s (decode_of-ok s bytes d).1))
 
 -- an odd number of bytes doesn't decode
 pub odd_digits : (s : List ℕ) → (length s % 2 ≡ 0 → ⊥) → is_ok (decode_of s) ≡ false
@@ -66,22 +64,6 @@ abbrev is_lowered : ℕ → Option ℕ → Bool
 is_lowered c None = true
 is_lowered c (Some v) = to_ascii_lowercase c == slice_index lower_digits v
 
-abbrev all_lowered : ℕ → Bool
-all_lowered zero = true
-all_lowered (suc n) = is_lowered n (hex_digit_value n) && all_lowered n
-
-all_lowered-at : (n c : ℕ) → all_lowered n ≡ true → c < n
-    → is_lowered c (hex_digit_value c) ≡ true
-all_lowered-at zero c h below = absurd (omega arith)
-all_lowered-at (suc n) c h below =
-    let parts = and_parts (is_lowered n (hex_digit_value n)) (all_lowered n) h in
-    elim (cases_lt c n) [
-      | inl lower ↦ all_lowered-at n c parts.1 lower
-      | inr last ↦
-          let same : c ≡ n = omega arith in
-          rw same parts.0
-    ]
-
 digit-below : (c v : ℕ) → hex_digit_value c ≡ Some v → c < 103
 digit-below c v h = grind (arith)
 
@@ -89,7 +71,9 @@ lower_digit : (c v : ℕ) → hex_digit_value c ≡ Some v
     → to_ascii_lowercase c ≡ slice_index lower_digits v
 lower_digit c v h =
     eqb-true (to_ascii_lowercase c) (slice_index lower_digits v)
-    (ap (is_lowered c) (sym h) ∙ all_lowered-at 103 c refl (digit-below c v h))
+    (ap (is_lowered c) (sym h)
+    ∙ agree_below_at (λ k. is_lowered k (hex_digit_value k)) (λ k. true) 103 c refl
+    (digit-below c v h))
 
 digit-small : (c v : ℕ) → hex_digit_value c ≡ Some v → v < 16
 digit-small c v h = grind (arith)
@@ -110,9 +94,7 @@ then_read (Err e) f y h = absurd (cc h)
 lower_pairs : (i : ℕ) (s bytes : List ℕ) → decode_pairs i s ≡ Ok bytes
     → map to_ascii_lowercase s ≡ encode_lower bytes
 unfolding decode_pairs encode_with
-lower_pairs i [] bytes h =
-    let none : [] ≡ bytes = cc in
-    rw (← none) refl
+lower_pairs i [] bytes h = let none : [] ≡ bytes = cc in rw (← none) refl
 lower_pairs i (a ∷ []) bytes h = absurd (cc h)
 lower_pairs i (a ∷ b ∷ rest) bytes h =
     let byte = then_read (pair_value a b i) _ bytes h in
@@ -149,10 +131,10 @@ text_of_bytes digits decoded bytes are_bytes h =
     lower_pairs 0 (encode_lower bytes) bytes
     (sym (decode_of-even (encode_lower bytes) twice.0) ∙ text) in (
       λ same.
-          let alike : encode_lower decoded ≡ encode_lower bytes = sym lowered ∙ (same ∙ lower) in
+          let alike : encode_lower decoded ≡ encode_lower bytes = cc in
           decode_of-same (encode_lower bytes) bytes decoded text
-          (ap decode_of (sym alike) ∙ decode_of-encode_lower decoded parts.3),
-      λ same. lowered ∙ (ap encode_lower (sym same) ∙ sym lower),
+          (cc (decode_of-encode_lower decoded parts.3)),
+      λ same. cc,
     )
 
 -- so a test of the texts is one of the bytes
@@ -162,19 +144,14 @@ pub equal_bytes : (t : Bool) (digits decoded bytes text : List ℕ) → IsBytes 
     → t ≡ bytes_eq bytes decoded
 equal_bytes t digits decoded bytes text are_bytes h written test =
     let same = text_of_bytes digits decoded bytes are_bytes h in
-    let alike : map to_ascii_lowercase text ≡ map to_ascii_lowercase (encode_lower bytes) =
-    ap (map to_ascii_lowercase) written in
+    let said = rw written at test in
     same_from_decides t (bytes_eq bytes decoded)
-    (λ yes. same.0 (test.0 yes ∙ alike), λ equal. test.1 (same.1 equal ∙ sym alike))
-    (bytes_eq-Decides bytes decoded)
+    (λ yes. same.0 (said.0 yes), λ equal. said.1 (same.1 equal)) (bytes_eq-Decides bytes decoded)
 
 -- bytes of another length are others
 pub other_length : (digits decoded bytes : List ℕ) → decode_of digits ≡ Ok decoded
     → (length digits ≡ 2 * length bytes → ⊥) → bytes_eq bytes decoded ≡ false
 other_length digits decoded bytes h other =
-    not_equal (bytes_eq bytes decoded) (bytes_eq-Decides bytes decoded)
-    (λ same. other ((decode_of-ok digits decoded h).2 ∙ ap (λ (l : List ℕ). 2 * length l) (sym same)))
-  where
-    not_equal : (t : Bool) → Decides t (bytes ≡ decoded) → (bytes ≡ decoded → ⊥) → t ≡ false
-    not_equal true d n = absurd (n (d.0 refl))
-    not_equal false d n = refl
+    false_from_ne_true (bytes_eq bytes decoded)
+    (λ e. let same = (bytes_eq-Decides bytes decoded).0 e in
+    other (rw same (decode_of-ok digits decoded h).2))

@@ -1,29 +1,23 @@
 -- What the first line of a text is, and the lines after it.
-use Rattle.std.proofs.Common.{◌≡◌, ◌≢◌, ℕ, zero, suc, ◌<◌, ◌≤◌, Bool, true, false, cond, ◌||◌, ◌&&◌}
+use Rattle.std.proofs.Common.{◌≡◌, ◌≢◌, ℕ, zero, suc, ◌<◌, ◌≤◌, Bool, true, false, ◌&&◌}
 use Rattle.std.proofs.Common.{eqb, List, [], ◌∷◌, ◌++◌, length, take, drop, get_or, Some, None}
-use Rattle.std.proofs.Common.{refl, sym, ap, ◌∙◌, arith}
+use Rattle.std.proofs.Common.{refl, ap, ◌∙◌, arith}
 use Rattle.std.specs.List.{onto_first, position, position_or_len}
 use Rattle.std.specs.Str.{bytes_eq}
-use Rattle.std.proofs.lemmas.Bool.{and_parts, eqb-true}
+use Rattle.std.proofs.lemmas.Bool.{and_parts, or_parts, eqb-true}
+use Rattle.std.proofs.Math.Dec.{eqb-suc-zero}
 use Rattle.std.proofs.lemmas.List.{append-nil}
 use Rattle.std.proofs.lemmas.List.Quantifiers.{position-Some}
 use Rattle.bag_text.proofs.Lists.{position-none, prefix_len-full}
-use Rattle.bag_text.specs.Lines.{is_line_end, starts_with_line_feed, lines_of}
+use Rattle.bag_text.specs.Lines.{is_line_end, lines_of}
 use Rattle.bag_text.specs.inner.Starts.{starts_with_line_end}
 
 -- a byte that ends no line is put before the next line
 lines_of-other : (byte : ℕ) (rest : List ℕ) → is_line_end byte ≡ false
     → lines_of (byte ∷ rest) ≡ onto_first byte (lines_of rest)
 unfolding lines_of
-lines_of-other byte rest h = go (eqb byte 10) (eqb byte 13) h
-  where
-    go : (lf cr : Bool) → (lf || cr) ≡ false
-        → cond (cr && starts_with_line_feed rest) (lines_of rest)
-        (cond (lf || cr) ([] ∷ lines_of rest) (onto_first byte (lines_of rest)))
-        ≡ onto_first byte (lines_of rest)
-    go false false e = refl
-    go true cr e = absurd cc
-    go false true e = absurd cc
+lines_of-other byte rest h =
+    let none = or_parts (eqb byte 10) (eqb byte 13) h in rw (none.0, none.1) refl
 
 -- CR LF ends one line
 pub lines_of-both : (ended : List ℕ) → bytes_eq (take 2 ended) (13 ∷ 10 ∷ []) ≡ true
@@ -34,9 +28,7 @@ lines_of-both (a ∷ []) h = let e : false ≡ true = (and_parts (eqb a 13) fals
 lines_of-both (a ∷ b ∷ rest) h =
     let p = and_parts (eqb a 13) (eqb b 10 && true) h in
     let q = and_parts (eqb b 10) true p.1 in
-    let first : a ≡ 13 = eqb-true a 13 p.0 in
-    let second : b ≡ 10 = eqb-true b 10 q.0 in
-    rw (first, second) refl
+    rw (eqb-true a 13 p.0, eqb-true b 10 q.0) refl
 
 and-true : (b : Bool) → (b && true) ≡ b
 and-true true = refl
@@ -49,9 +41,7 @@ unfolding lines_of
 lines_of-end [] e h = absurd cc
 lines_of-end (a ∷ []) e h = rw (h, e) refl
 lines_of-end (a ∷ b ∷ rest) e h =
-    let other : (eqb a 13 && eqb b 10) ≡ false =
-    ap (λ (t : Bool). eqb a 13 && t) (sym (and-true (eqb b 10))) ∙ h in
-    rw (other, e) refl
+    let other = rw (and-true (eqb b 10)) at h in rw (other, e) refl
 
 first_by_index : (text : List ℕ) (n : ℕ) (more : List (List ℕ)) → n < length text
     → ((k : ℕ) → k < n → is_line_end (get_or text k 0) ≡ false) → lines_of (drop n text) ≡ [] ∷ more
@@ -105,17 +95,11 @@ unfolding lines_of
 lines_of-nil = refl
 
 -- where nothing is left, the lines so far are all of them
-pub lines_of-ended : (rest : List ℕ) (found all : List (List ℕ)) → true ≡ eqb (length rest) 0
-    → found ++ lines_of rest ≡ all → found ≡ all
-unfolding lines_of
-lines_of-ended [] found all e h = sym (append-nil found) ∙ h
-lines_of-ended (byte ∷ rest) found all e h =
-    let long : suc (length rest) ≡ 0 =
-    eqb-true (suc (length rest)) 0 (sym e) in absurd (omega arith)
-
 pub lines_of-empty : (text : List ℕ) → true ≡ eqb (length text) 0 → lines_of text ≡ []
 unfolding lines_of
 lines_of-empty [] h = refl
-lines_of-empty (byte ∷ rest) h =
-    let long : suc (length rest) ≡ 0 =
-    eqb-true (suc (length rest)) 0 (sym h) in absurd (omega arith)
+lines_of-empty (byte ∷ rest) h = absurd (cc (h, eqb-suc-zero (length rest)))
+
+pub lines_of-ended : (rest : List ℕ) (found all : List (List ℕ)) → true ≡ eqb (length rest) 0
+    → found ++ lines_of rest ≡ all → found ≡ all
+lines_of-ended rest found all e h = rw (lines_of-empty rest e, append-nil found) at h

@@ -1,7 +1,7 @@
 -- A path as it is written, from its first byte on, and whether it is text.
 use Rattle.std.proofs.Common.{◌≡◌, ℕ, Bool, true, false, cond, eqb, codes, Some, None, List, []}
-use Rattle.std.proofs.Common.{◌∷◌, ◌++◌, drop, refl, sym, ap, ◌∙◌}
-use Rattle.std.proofs.lemmas.Bool.{eqb-true}
+use Rattle.std.proofs.Common.{◌∷◌, ◌++◌, drop, refl, ap, ◌∙◌}
+use Rattle.std.proofs.lemmas.Bool.{eqb-true, false_from_ne_true}
 use Rattle.std.proofs.lemmas.List.{append-nil}
 use Rattle.std.proofs.lemmas.List.Concat.{flat_map-cons}
 use Rattle.std.proofs.lemmas.Str.{IsUtf8-from_is_utf8, is_utf8-from_IsUtf8}
@@ -14,36 +14,30 @@ use Rattle.bag_text.specs.inner.Starts.{escape_at}
 pub unescaped-escape : (text : List ℕ) (byte : ℕ) → escape_at text ≡ Some byte
     → unescaped text ≡ byte ∷ unescaped (drop 3 text)
 unfolding unescaped
-unescaped-escape [] byte h = absurd cc
-unescaped-escape (a ∷ []) byte h = absurd cc
-unescaped-escape (a ∷ b ∷ []) byte h = absurd cc
 unescaped-escape (a ∷ b ∷ c ∷ rest) byte h = rw h refl
+unescaped-escape _ byte h = absurd cc
 
 without_escape : (first : ℕ) (rest : List ℕ) → escape_at (first ∷ rest) ≡ None
     → unescaped (first ∷ rest) ≡ first ∷ unescaped rest
 unfolding unescaped
-without_escape a [] n = refl
-without_escape a (b ∷ []) n = refl
 without_escape a (b ∷ c ∷ rest) n = rw n refl
+without_escape a _ n = refl
 
 -- none is
 pub unescaped-other : (text : List ℕ) (first : ℕ) (rest : List ℕ) → text ≡ first ∷ rest
     → escape_at text ≡ None → unescaped text ≡ first ∷ unescaped rest
-unescaped-other text first rest e h =
-    ap unescaped e ∙ without_escape first rest (ap escape_at (sym e) ∙ h)
+unescaped-other text first rest e h = rw e (without_escape first rest (rw e at h))
 
 -- where nothing is left, what was made so far is all
 pub unescaped-ended : (rest made all : List ℕ) → rest ≡ [] → made ++ unescaped rest ≡ all
     → made ≡ all
 unfolding unescaped
-unescaped-ended rest made all e h =
-    sym (append-nil made) ∙ ap (λ (left : List ℕ). made ++ unescaped left) (sym e) ∙ h
+unescaped-ended rest made all e h = rw (e, append-nil made) at h
 
 -- what begins with another byte than the sign of escapes is no escape
 no_sign : (byte : ℕ) (rest : List ℕ) → eqb byte 37 ≡ false → escape_at (byte ∷ rest) ≡ None
-no_sign byte [] h = refl
-no_sign byte (x ∷ []) h = refl
 no_sign byte (x ∷ y ∷ rest) h = rw h refl
+no_sign byte _ h = refl
 
 escaped-byte : (byte : ℕ) (rest : List ℕ)
     → unescaped (escape_of byte ++ rest) ≡ byte ∷ unescaped rest
@@ -55,9 +49,9 @@ escaped-byte byte rest = go (eqb byte 10) (eqb byte 13) (eqb byte 37) refl refl 
         (cond lf (codes "%0A")
         (cond cr (codes "%0D") (cond sign (codes "%25") (byte ∷ []))) ++ rest)
         ≡ byte ∷ unescaped rest
-    go true cr sign e f g = ap (λ (b : ℕ). b ∷ unescaped rest) (sym (eqb-true byte 10 e))
-    go false true sign e f g = ap (λ (b : ℕ). b ∷ unescaped rest) (sym (eqb-true byte 13 f))
-    go false false true e f g = ap (λ (b : ℕ). b ∷ unescaped rest) (sym (eqb-true byte 37 g))
+    go true cr sign e f g = rw (eqb-true byte 10 e) refl
+    go false true sign e f g = rw (eqb-true byte 13 f) refl
+    go false false true e f g = rw (eqb-true byte 37 g) refl
     go false false false e f g = unescaped-other (byte ∷ rest) byte rest refl (no_sign byte rest g)
 
 -- what was escaped is read again
@@ -72,14 +66,11 @@ unescaped-escaped (byte ∷ path) =
 pub path_in-text : (written path : List ℕ) → path ≡ path_of written → IsUtf8 path
     → path_in written ≡ Some path
 path_in-text written path e h =
-    let text : is_utf8 (path_of written) ≡ true = ap is_utf8 (sym e) ∙ is_utf8-from_IsUtf8 path h in
-    rw text (ap Some (sym e))
+    rw (← e, is_utf8-from_IsUtf8 path h) refl
 
 -- a path that isn't
 pub path_in-other : (written path : List ℕ) → path ≡ path_of written → (IsUtf8 path → ⊥)
     → path_in written ≡ None
-path_in-other written path e h = go (is_utf8 (path_of written)) refl
-  where
-    go : (t : Bool) → is_utf8 (path_of written) ≡ t → cond t (Some (path_of written)) None ≡ None
-    go true p = absurd (h (IsUtf8-from_is_utf8 path (ap is_utf8 e ∙ p)))
-    go false p = refl
+path_in-other written path e h =
+    let other = false_from_ne_true (is_utf8 path) (λ t. h (IsUtf8-from_is_utf8 path t)) in
+    rw (← e, other) refl

@@ -1,6 +1,6 @@
 -- A path below a folder begins with it, has a slash there, and is longer.
 use Rattle.std.proofs.Common.{◌≡◌, ℕ, suc, Bool, true, false, ◌&&◌, eqb, ltb, List, [], ◌∷◌, length}
-use Rattle.std.proofs.Common.{◌<◌, take, get_or, ◌+◌, inl, inr, refl, sym, ap, subst, ◌∙◌, arith}
+use Rattle.std.proofs.Common.{◌<◌, take, get_or, ◌+◌, inl, inr, refl, sym, ap, ◌∙◌, arith}
 use Rattle.std.proofs.lemmas.Bool.{and_parts, cases_lt, eqb-true, ltb-true, lt-ltb}
 use Rattle.std.proofs.lemmas.List.{length-take}
 use Rattle.std.proofs.lemmas.Slice.Eq.{bytes_eq-Decides}
@@ -13,8 +13,7 @@ begins folder path = pointwise (λ a b. eqb a b) folder (take (length folder) pa
 
 regrouped : (same less front last : Bool)
     → (same && (less && (front && last))) ≡ (less && (same && front && last))
-regrouped true true front last = refl
-regrouped true false front last = refl
+regrouped true less front last = refl
 regrouped false true front last = refl
 regrouped false false front last = refl
 
@@ -57,8 +56,7 @@ pub below_parts : (folder path : List ℕ) → is_below folder path ≡ true
 below_parts folder path h =
     let split = sym (is_below_split folder path) ∙ h in
     let less = and_parts (ltb (length folder) (length path)) _ split in
-    let others =
-    and_parts (begins folder path) (eqb (get_or path (length folder) 0) slash) less.1 in (
+    let others = and_parts (begins folder path) _ less.1 in (
       ltb-true (length folder) (length path) less.0,
       (bytes_eq-Decides folder (take (length folder) path)).0 others.0,
       eqb-true (get_or path (length folder) 0) slash others.1,
@@ -75,6 +73,6 @@ next_folder {P} path end before here folder short below =
       | inr past ↦
           let parts = below_parts folder path below in
           let last : length folder ≡ end = omega (arith, past, short) in
-          let is : folder ≡ take end path = parts.1 ∙ ap (λ n. take n path) last in
-          subst P (sym is) (here (ap (λ n. get_or path n 0) (sym last) ∙ parts.2))
+          let is : folder ≡ take end path = rw last at parts.1 in
+          rw is (here (rw last at parts.2))
     ]

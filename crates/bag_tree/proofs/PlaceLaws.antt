@@ -1,28 +1,27 @@
 -- Maps that lead from paths to files: what a look-up finds, one entry more, and one file more.
-use Rattle.std.proofs.Common.{◌≡◌, ◌⊎◌, inl, inr, ℕ, zero, suc, ◌+◌, ◌-◌, ◌<◌, ◌≤◌, ◌==◌, ltb, Bool, true, false}
-use Rattle.std.proofs.Common.{◌||◌, cond, List, [], ◌∷◌, ◌++◌, length, take, drop, String}
-use Rattle.std.proofs.Common.{Option, Some, None, refl, sym, ap, ◌∙◌, arith}
+use Rattle.std.proofs.Common.{get_or, ◌≡◌, ◌⊎◌, inl, inr, ℕ, zero, suc, ◌-◌, ◌<◌, ◌≤◌, ◌==◌}
+use Rattle.std.proofs.Common.{ltb, Bool, true, false, ◌||◌, cond, List, [], ◌∷◌, ◌++◌, length, take}
+use Rattle.std.proofs.Common.{drop, String, Option, Some, None, refl, sym, ap, ◌∙◌, arith}
 use Rattle.std.specs.BTreeMap as tree
 use Rattle.std.specs.BTreeMap.{BTreeMap, get_by_text}
 use Rattle.std.specs.Cmp.Lexicographic.{slice_cmp}
-use Rattle.std.specs.List.{list_any, slice_get, slice_range}
+use Rattle.std.specs.List.{list_any, slice_get, slice_range, count_by}
 use Rattle.std.specs.Ordering.{nat_cmp}
 use Rattle.std.specs.Str.{bytes_eq}
 use Rattle.std.specs.String.{string_bytes, string_cmp}
 use Rattle.std.proofs.Math.Bool.{or-true, or-false}
-use Rattle.std.proofs.lemmas.Bool.{cases_eq, cases_lt, lt-ltb, or_parts}
-use Rattle.std.proofs.lemmas.List.{take-append-drop}
+use Rattle.std.proofs.lemmas.Bool.{cases_Bool, cases_eq, cases_lt, lt-ltb, or_parts}
+use Rattle.std.proofs.lemmas.List.{take-append-drop, length-append, take-take}
 use Rattle.std.proofs.lemmas.List.Sums.{sum_by-append}
 use Rattle.std.proofs.lemmas.List.Folds.{list_any-append}
 use Rattle.std.proofs.lemmas.Map.Text.{btree_map_updates_text}
-use Rattle.std.proofs.lemmas.Option.{slice_get_past}
+use Rattle.std.proofs.lemmas.Option.{slice_get_past, slice_get_read}
 use Rattle.std.proofs.lemmas.Slice.Eq.{bytes_eq-Decides}
 use Rattle.bag_tree.specs.Tree.{File, clash, deepest_path}
 use Rattle.bag_tree.specs.Path.{is_below, parts_of, slash}
 use Rattle.bag_tree.proofs.Below.{below_parts}
-use Rattle.std.specs.List.{count_by}
 use Rattle.std.proofs.lemmas.List.Splits.{length-slice_split}
-use Rattle.bag_tree.specs.inner.Places.{FindsEach, is_at, is_too_deep, leads, passes}
+use Rattle.bag_tree.specs.inner.Places.{FindsEach, is_at, is_too_deep, leads}
 
 module _ {Y : Type 0} (fits : List ℕ → List ℕ → Bool) (files : List File)
     (places : BTreeMap (String Y) ℕ) (h : FindsEach fits files places) where
@@ -30,22 +29,17 @@ module _ {Y : Type 0} (fits : List ℕ → List ℕ → Bool) (files : List File
 
   pub found_nothing : (path : List ℕ) → None ≡ get_by_text places path
       → false ≡ list_any (λ file. fits path file.path) files
-  found_nothing path e = sym (h path ∙ ap (leads (λ file. fits path file.path) files) (sym e))
+  found_nothing path e = rw (h path, ← e) refl
 
   pub found_no_file : (path : List ℕ) (place : ℕ) → Some place ≡ get_by_text places path
-      → None ≡ slice_get files place → false ≡ list_any (λ file. fits path file.path) files
-  found_no_file path place e none =
-      sym
-      (h path ∙ ap (leads (λ file. fits path file.path) files) (sym e)
-      ∙ ap (passes (λ file. fits path file.path)) (sym none))
+      → length files ≤ place → false ≡ list_any (λ file. fits path file.path) files
+  found_no_file path place e past = rw (h path, ← e, slice_get_past files place past) refl
 
   pub found_file : (path : List ℕ) (place : ℕ) (file : File) → Some place ≡ get_by_text places path
-      → Some file ≡ slice_get files place
+      → place < length files → file ≡ get_or files place file
       → fits path file.path ≡ list_any (λ file. fits path file.path) files
-  found_file path place file e is =
-      sym
-      (h path ∙ ap (leads (λ file. fits path file.path) files) (sym e)
-      ∙ ap (passes (λ file. fits path file.path)) (sym is))
+  found_file path place file e within is =
+      rw (h path, ← e, slice_get_read files (length files) place file refl within is) refl
 
   -- ---- one entry more, which leads to the file that is added next
 
@@ -54,19 +48,13 @@ module _ {Y : Type 0} (fits : List ℕ → List ℕ → Bool) (files : List File
       (Some (length files))
       → list_any (λ file. fits key file.path) files ≡ false → FindsEach fits files new
   one_more key new updates none path =
-      go (bytes_eq key path) refl
-    where
-      now : get_by_text new path ≡ cond (bytes_eq key path) (Some (length files))
-          (get_by_text places path)
-      now = btree_map_updates_text key places new (Some (length files)) updates path
-
-      go : (same : Bool) → bytes_eq key path ≡ same
-          → list_any (λ file. fits path file.path) files
-          ≡ leads (λ file. fits path file.path) files (get_by_text new path)
-      go true e =
-          let is : key ≡ path = (bytes_eq-Decides key path).0 e in
-          rw (now, e, slice_get_past files (length files) (omega arith)) (rw is at none)
-      go false e = rw (now, e) (h path)
+      let now = btree_map_updates_text key places new (Some (length files)) updates path in
+      elim (cases_Bool (bytes_eq key path)) [
+        | inl same ↦
+            let is = (bytes_eq-Decides key path).0 same in
+            rw (now, same, slice_get_past files (length files) (omega arith)) (rw is at none)
+        | inr other ↦ rw (now, other) (h path)
+      ]
 
 -- what the map has elsewhere stays
 pub others_stay : {Y : Type 0} (key : List ℕ) (places new : BTreeMap (String Y) ℕ) (place : ℕ)
@@ -74,15 +62,12 @@ pub others_stay : {Y : Type 0} (key : List ℕ) (places new : BTreeMap (String Y
     (Some place)
     → (path : List ℕ)
     → (get_by_text new path ≡ Some place) ⊎ (get_by_text new path ≡ get_by_text places path)
-others_stay key places new place updates path = go (bytes_eq key path) refl
-  where
-    now : get_by_text new path ≡ cond (bytes_eq key path) (Some place) (get_by_text places path)
-    now = btree_map_updates_text key places new (Some place) updates path
-
-    go : (same : Bool) → bytes_eq key path ≡ same
-        → (get_by_text new path ≡ Some place) ⊎ (get_by_text new path ≡ get_by_text places path)
-    go true e = inl (rw e at now)
-    go false e = inr (rw e at now)
+others_stay key places new place updates path =
+    let now = btree_map_updates_text key places new (Some place) updates path in
+    elim (cases_Bool (bytes_eq key path)) [
+      | inl same ↦ inl (rw same at now)
+      | inr other ↦ inr (rw other at now)
+    ]
 
 -- ---- one file more
 
@@ -96,11 +81,6 @@ get_last : (files : List File) (file : File)
     → slice_get (files ++ file ∷ []) (length files) ≡ Some file
 get_last [] file = refl
 get_last (first ∷ files) file = get_last files file
-
-length_more : (files : List File) (file : File)
-    → length (files ++ file ∷ []) ≡ length files + 1
-length_more [] file = refl
-length_more (first ∷ files) file = let more = length_more files file in omega (arith, more)
 
 module _ (test : File → Bool) (files : List File) (file : File) where
   -- a place that led to such a file still does
@@ -129,38 +109,18 @@ module _ (test : File → Bool) (files : List File) (file : File) where
                   rw (
                     slice_get_past files place past,
                     slice_get_past (files ++ file ∷ []) place
-                        (let more = length_more files file in omega (arith, more, past, beyond)),
+                        (omega (arith, length-append files (file ∷ []), past, beyond)),
                   )
                   refl
             ]
       ]
 
--- the file that entries were made for
-pub file_more : {Y : Type 0} (fits : List ℕ → List ℕ → Bool) (files : List File) (file : File)
-    (places : BTreeMap (String Y) ℕ) → FindsEach fits files places
-    → ((path : List ℕ) → fits path file.path ≡ true
-    → (get_by_text places path ≡ Some (length files))
-    ⊎ (list_any (λ f. fits path f.path) files ≡ true))
-    → FindsEach fits (files ++ file ∷ []) places
-file_more fits files file places h added path =
-    list_any-append test files (file ∷ []) ∙ go (fits path file.path) refl
-  where
-    test : File → Bool
-    test = λ f. fits path f.path
-
-    go : (is : Bool) → fits path file.path ≡ is
-        → (list_any test files || list_any test (file ∷ []))
-        ≡ leads test (files ++ file ∷ []) (get_by_text places path)
-    go true e = elim (added path e) [
-      | inl new ↦
-          rw (new, get_last files file, e) (or-true (list_any test files))
-      | inr old ↦
-          rw (old)
-          (sym (leads_still test files file (get_by_text places path) (sym (h path) ∙ old)))
-    ]
-    go false e =
-        rw (e, or-false (list_any test files))
-        (h path ∙ sym (leads_same test files file e (get_by_text places path)))
+-- the map leads from the path to the next file, or to one that is there
+abbrev pub Leads : {Y : Type 0} → (List ℕ → List ℕ → Bool) → List File → BTreeMap (String Y) ℕ
+    → List ℕ → Type 0
+Leads fits files places path =
+    (get_by_text places path ≡ Some (length files))
+    ⊎ (list_any (λ file. fits path file.path) files ≡ true)
 
 -- ---- folders of a path, and files
 
@@ -170,45 +130,29 @@ pub none_below : (files : List File) (path : List ℕ)
     → list_any (λ file. is_at folder file.path) files ≡ false)
     → list_any (λ file. is_below file.path path) files ≡ false
 none_below [] path h = refl
-none_below (file ∷ files) path h =
-    go (is_below file.path path) refl
-    (none_below files path (λ folder below. (or_parts _ _ (h folder below)).1))
-  where
-    go : (t : Bool) → is_below file.path path ≡ t
-        → list_any (λ f. is_below f.path path) files ≡ false
-        → list_any (λ f. is_below f.path path) (file ∷ files) ≡ false
-    go true e others =
-        let at : is_at file.path file.path ≡ false =
-        (or_parts (is_at file.path file.path) (list_any (λ f. is_at file.path f.path) files)
-        (h file.path e)).0 in
-        absurd (cc (sym ((bytes_eq-Decides file.path file.path).1 refl) ∙ at))
-    go false e others = rw e others
+none_below (file ∷ files) path h = elim (cases_Bool (is_below file.path path)) [
+  | inl below ↦
+      let none : is_at file.path file.path ≡ false = (or_parts _ _ (h file.path below)).0 in
+      absurd (cc (none, (bytes_eq-Decides file.path file.path).1 refl))
+  | inr other ↦
+      rw other (none_below files path (λ folder below. (or_parts _ _ (h folder below)).1))
+]
 
 -- a file has the path of a folder that the path lies in
 pub some_below : (files : List File) (folder path : List ℕ) → is_below folder path ≡ true
     → list_any (λ file. is_at folder file.path) files ≡ true
     → list_any (λ file. is_below file.path path) files ≡ true
 some_below [] folder path below h = absurd (cc h)
-some_below (file ∷ files) folder path below h =
-    go (is_at folder file.path) refl (λ others. some_below files folder path below others)
-  where
-    go : (t : Bool) → is_at folder file.path ≡ t
-        → (list_any (λ f. is_at folder f.path) files ≡ true
-        → list_any (λ f. is_below f.path path) files ≡ true)
-        → list_any (λ f. is_below f.path path) (file ∷ files) ≡ true
-    go true e others =
-        let is : file.path ≡ folder = (bytes_eq-Decides file.path folder).0 e in
-        ap (λ t. t || list_any (λ f. is_below f.path path) files)
-        (ap (λ (p : List ℕ). is_below p path) is ∙ below)
-    go false e others =
-        ap (λ t. is_below file.path path || t) (others (rw e at h))
-        ∙ or-true (is_below file.path path)
+some_below (file ∷ files) folder path below h = elim (cases_Bool (is_at folder file.path)) [
+  | inl same ↦ rw ((bytes_eq-Decides file.path folder).0 same, below) refl
+  | inr other ↦
+      rw (some_below files folder path below (rw other at h)) (or-true (is_below file.path path))
+]
 
 -- the text before a place
 pub from_start : (path : List ℕ) (end : ℕ) → slice_range path 0 end ≡ take end path
 from_start path end =
-    let same : end - 0 ≡ end = omega arith in
-    ap (λ n. take n path) same
+    let same : end - 0 ≡ end = omega arith in rw same refl
 
 -- an entry that came meanwhile is one for the new file
 pub keeps : {L : Type 0} (now before : Option ℕ) (place : ℕ)
@@ -233,14 +177,11 @@ pub clashes : (files : List File) (path : List ℕ)
     || list_any (λ file. is_below file.path path) files)
 clashes [] path = refl
 clashes (file ∷ files) path =
-    let others = clashes files path in
-    let at = is_at path file.path in
-    let below = is_below path file.path in
-    let above = is_below file.path path in
-    let ats = list_any (λ (f : File). is_at path f.path) files in
-    let belows = list_any (λ (f : File). is_below path f.path) files in
-    let aboves = list_any (λ (f : File). is_below f.path path) files in
-    rw others (regrouped at below above ats belows aboves)
+    rw (clashes files path)
+    (regrouped (is_at path file.path) (is_below path file.path) (is_below file.path path)
+    (list_any (λ (f : File). is_at path f.path) files)
+    (list_any (λ (f : File). is_below path f.path) files)
+    (list_any (λ (f : File). is_below f.path path) files))
 
 pub has_clash : (files found : List File) (path : List ℕ) (at below above : Bool) → found ≡ files
     → at ≡ list_any (λ file. is_at path file.path) found
@@ -255,44 +196,37 @@ pub none_at : (files found : List File) (path : List ℕ) → found ≡ files
     → list_any (λ file. clash file.path path) files ≡ false
     → list_any (λ file. is_at path file.path) found ≡ false
 none_at files found path same h =
-    let parts =
-    or_parts
-    (list_any (λ file. is_at path file.path) files
-    || list_any (λ file. is_below path file.path) files)
-    (list_any (λ file. is_below file.path path) files) (sym (clashes files path) ∙ h) in
-    rw same
-    (or_parts (list_any (λ file. is_at path file.path) files)
-    (list_any (λ file. is_below path file.path) files) parts.0).0
+    rw same (or_parts _ _ (or_parts _ _ (sym (clashes files path) ∙ h)).0).0
 
 -- ---- a file that was added
 
 pub file_added : {Y : Type 0} (fits : List ℕ → List ℕ → Bool) (files all : List File) (file : File)
     (places : BTreeMap (String Y) ℕ) (path : List ℕ) → all ≡ files ++ file ∷ []
     → file.path ≡ path → FindsEach fits files places
-    → ((key : List ℕ) → fits key path ≡ true
-    → (get_by_text places key ≡ Some (length files))
-    ⊎ (list_any (λ f. fits key f.path) files ≡ true))
+    → ((key : List ℕ) → fits key path ≡ true → Leads fits files places key)
     → FindsEach fits all places
-file_added fits files all file places path is named h added =
+file_added fits files all file places path is named h added key =
+    let test : File → Bool = λ f. fits key f.path in
+    let found = get_by_text places key in
     rw is
-    (file_more fits files file places h
-    (λ key e. added key (ap (λ (p : List ℕ). fits key p) (sym named) ∙ e)))
+    (list_any-append test files (file ∷ [])
+    ∙ elim (cases_Bool (fits key file.path)) [
+      | inl fit ↦
+          elim (added key (rw (← named) fit)) [
+            | inl new ↦ rw (new, get_last files file, fit) (or-true (list_any test files))
+            | inr old ↦ rw old (sym (leads_still test files file found (sym (h key) ∙ old)))
+          ]
+      | inr unfit ↦
+          rw (unfit, or-false (list_any test files))
+          (h key ∙ sym (leads_same test files file unfit found))
+    ])
 
 pub path_added : {Y : Type 0} (files : List File) (places : BTreeMap (String Y) ℕ) (path : List ℕ)
     → get_by_text places path ≡ Some (length files) → (key : List ℕ) → is_at key path ≡ true
-    → (get_by_text places key ≡ Some (length files))
-    ⊎ (list_any (λ f. is_at key f.path) files ≡ true)
-path_added files places path h key e =
-    inl (ap (get_by_text places) (sym ((bytes_eq-Decides path key).0 e)) ∙ h)
+    → Leads is_at files places key
+path_added files places path h key e = inl (rw (← (bytes_eq-Decides path key).0 e) h)
 
 -- ---- paths of many parts
-
--- a beginning of a beginning
-take_take : (end n : ℕ) (path : List ℕ) → end ≤ n → take end (take n path) ≡ take end path
-take_take zero n path h = refl
-take_take (suc end) zero path h = absurd (omega arith)
-take_take (suc end) (suc n) [] h = refl
-take_take (suc end) (suc n) (b ∷ path) h = ap (λ l. b ∷ l) (take_take end n path (omega arith))
 
 -- a longer beginning of a path has no fewer parts
 deeper : (folder : List ℕ) (end : ℕ)
@@ -309,17 +243,14 @@ none_so_deep : (files : List File) (folder : List ℕ) → deepest_path < length
 none_so_deep [] folder deep h = refl
 none_so_deep (file ∷ files) folder deep h =
     let parts = or_parts (is_too_deep file) (list_any is_too_deep files) h in
-    go (is_at folder file.path) refl parts.0 (none_so_deep files folder deep parts.1)
-  where
-    go : (t : Bool) → is_at folder file.path ≡ t → is_too_deep file ≡ false
-        → list_any (λ f. is_at folder f.path) files ≡ false
-        → list_any (λ f. is_at folder f.path) (file ∷ files) ≡ false
-    go true e not others =
-        let is : file.path ≡ folder = (bytes_eq-Decides file.path folder).0 e in
-        let long : ltb deepest_path (length (parts_of file.path)) ≡ true =
-        rw is (lt-ltb deepest_path (length (parts_of folder)) deep) in
-        absurd (cc (sym long ∙ not))
-    go false e not others = rw e others
+    elim (cases_Bool (is_at folder file.path)) [
+      | inl same ↦
+          let is = (bytes_eq-Decides file.path folder).0 same in
+          let long : ltb deepest_path (length (parts_of file.path)) ≡ true =
+          rw is (lt-ltb deepest_path (length (parts_of folder)) deep) in
+          absurd (cc (long, parts.0))
+      | inr other ↦ rw other (none_so_deep files folder deep parts.1)
+    ]
 
 -- where a folder of the path has that many parts, no folder from there on is a file
 pub none_deeper : (files : List File) (path : List ℕ) (end : ℕ)
@@ -334,11 +265,11 @@ none_deeper files path end deep h before =
       | inl less ↦ before folder less below
       | inr past ↦
           let parts = below_parts folder path below in
-          let front : take end folder ≡ take end path =
-          ap (take end) parts.1 ∙ take_take end (length folder) path past in
           let more = deeper folder end in
+          let front : take end folder ≡ take end path =
+          ap (take end) parts.1 ∙ take-take end (length folder) path past in
           let same : length (parts_of (take end folder)) ≡ length (parts_of (take end path)) =
-          ap (λ (p : List ℕ). length (parts_of p)) front in
+          rw front refl in
           none_so_deep files folder (omega (arith, deep, more, same)) h
     ])
 
@@ -348,4 +279,4 @@ pub still_none_deep : (files all : List File) (file : File) (path : List ℕ)
     → ltb deepest_path (length (parts_of path)) ≡ false → list_any is_too_deep all ≡ false
 still_none_deep files all file path is named none short =
     let last : is_too_deep file ≡ false = rw named short in
-    rw is (list_any-append is_too_deep files (file ∷ []) ∙ rw (none, last) refl)
+    rw (is, list_any-append is_too_deep files (file ∷ []), none, last) refl

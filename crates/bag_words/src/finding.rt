@@ -2,7 +2,7 @@
 
 use crate::unread::UnreadPaths;
 use std::alloc::{AllocError, Global};
-use words::parse_text;
+use tokens::parse_text;
 
 /// A place where a fault holds.
 #[derive(Drop)]

@@ -124,8 +124,8 @@ fn push_line_fault(
     }
 }
 
-// Appends why a name may be that of no folder: it was read from a list with line ends of Windows, or
-// with an empty line.
+// Appends why a name may be that of no folder: it was read from a list with line ends of Windows,
+// or with an empty line.
 fn push_line_end(text: &mut String, folder: &str) -> Result<(), AllocError> {
     if folder.is_empty() {
         return text.push_str("; its name is empty, as that of an empty line of a list");

@@ -6,8 +6,8 @@ use code_words::push_name;
 use std::alloc::{AllocError, Global};
 
 /// Appends which name a manifest of an unknown algorithm may be meant to have, where that name
-/// differs by letter case, dashes and repeated endings alone. If a file has that name, nobody is told
-/// to rename one over it.
+/// differs by letter case, dashes and repeated endings alone. If a file has that name, nobody is
+/// told to rename one over it.
 pub(crate) fn push_meant(
     text: &mut String,
     bag: &Bag<'_, '_>,

@@ -6,8 +6,8 @@ use bag_check::Kind;
 use std::alloc::AllocError;
 
 /// Appends that the bag is valid by RFC 8493, if it is, and is still refused here, since it has a
-/// fetch.txt or no manifest-sha512.txt. Where it has manifests that aren't read, only what the others
-/// say is known; and where a file wasn't read, or no digest was asked for, nothing is.
+/// fetch.txt or no manifest-sha512.txt. Where it has manifests that aren't read, only what the
+/// others say is known; and where a file wasn't read, or no digest was asked for, nothing is.
 pub(crate) fn push_rfc(
     text: &mut String,
     bag: &Bag<'_, '_>,

@@ -8,8 +8,8 @@ use std::alloc::AllocError;
 /// The dashes that a word processor writes in place of hyphens: U+2013 and U+2014.
 const DASHES: [char; 2] = ['\u{2013}', '\u{2014}'];
 
-/// Says on standard error which words of a command were taken for names, and are its options but for
-/// such a dash. The first word is the program's own name.
+/// Says on standard error which words of a command were taken for names, and are its options but
+/// for such a dash. The first word is the program's own name.
 pub(crate) fn say_dashes(rt: &HostRuntime, words: &[String]) {
     let [_, command, rest @ ..] = words else {
         return;

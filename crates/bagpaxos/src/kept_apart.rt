@@ -3,7 +3,7 @@
 use crate::arguments::Task;
 use code_words::{SYNCED, push_name};
 use json_lines::JsonLines;
-use site_commands::{Stop, write_stop};
+use site_client::{Stop, write_stop};
 use std::alloc::{AllocError, Global};
 use std::io;
 use system_files::{FileId, regular_file_at};

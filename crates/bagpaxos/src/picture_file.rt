@@ -23,8 +23,9 @@ struct NewFile {
 }
 
 /// Writes a picture to the file of this path. Where a file is there, or nothing, it is written
-/// beside that, and then takes its name: if the disk is full, what was there stays. What is no file,
-/// as a device or a link, is written as it is, and so is a file in a folder that takes no new one.
+/// beside that, and then takes its name: if the disk is full, what was there stays. What is no
+/// file, as a device or a link, is written as it is, and so is a file in a folder that takes no new
+/// one.
 pub(crate) fn write_picture(
     rt: &HostRuntime,
     path: &str,
@@ -68,8 +69,8 @@ fn put(
     written
 }
 
-// Writes the picture, and closes the file. Where the rights of the old one can't be had, it is still
-// a picture.
+// Writes the picture, and closes the file. Where the rights of the old one can't be had, it is
+// still a picture.
 fn fill(file: File, rights: Option<Permissions>, picture: &str) -> io::Result<()> {
     let mut file = file;
     if let Some(rights) = rights {

@@ -1,6 +1,6 @@
 -- What a commit answers and leaves, by how far it came.
 use Rattle.std.proofs.Common.{◌≡◌, ℕ, false, List, [], ◌∷◌, ◌++◌, take, Some, None}
-use Rattle.std.proofs.Common.{Result, Ok, Err, refl, sym, ap, subst}
+use Rattle.std.proofs.Common.{Result, Ok, Err, refl, ap}
 use Rattle.std.proofs.Math.Nat.{le_refl}
 use Rattle.std.specs.Prelude.{IsErrOf}
 use Rattle.std.specs.Result.{IsErrAnd}
@@ -18,7 +18,7 @@ use Rattle.records.specs.Layout.{record_bytes}
 use Rattle.records.specs.Records.{IsRecord}
 use Rattle.book.specs.declared.fault.CommitFault.{CommitFault}
 use Rattle.book.specs.declared.fault.CommitFault.TheVariants as commits
-use Rattle.book.specs.Committed.{Commits, after_append_and_sync}
+use Rattle.book.specs.Committed.{Commits}
 use Rattle.book.specs.Faults.{commit_fault}
 use Rattle.book.specs.OpenBooks.{HoldsText}
 use Rattle.book.specs.inner.Appended.{AppendCameOut, append_outcome, after_appending, book_of}
@@ -27,35 +27,7 @@ use Rattle.book.specs.inner.Sound.{IsSound, RestsAt, seen_of}
 use Rattle.book.proofs.Commits.{leaves_text, sound_recovers, rests, commit_came_out, not_begun}
 use Rattle.book.proofs.Commits.{written}
 use Rattle.book.proofs.States.{commit_leaves}
-
-memory_is_other : ◌≡◌ {A = Result (Unit {0}) CommitFault} (Err commits.Memory) (Err commits.Device)
-    → ⊥
-memory_is_other e = cc
-
-device_is_other : ◌≡◌ {A = Result (Unit {0}) CommitFault} (Err commits.Device) (Err commits.Memory)
-    → ⊥
-device_is_other e = cc
-
-ok_is_other : (e : CommitFault) → ◌≡◌ {A = Result (Unit {0}) CommitFault} (Ok tt) (Err e) → ⊥
-ok_is_other e is = cc
-
--- a refusal of the cell, and that of the commit
-device_failed : (e : CellFault)
-    → ◌≡◌ {A = Result (Unit {0}) CommitFault} (Err (commit_fault e)) (Err commits.Device)
-    → ◌≡◌ {A = Result (Unit {0}) CellFault} (Err e) (Err Device)
-device_failed Device is = refl
-device_failed Memory is = absurd (memory_is_other is)
-
-found_no_memory : (e : CellFault)
-    → ◌≡◌ {A = Result (Unit {0}) CommitFault} (Err (commit_fault e)) (Err commits.Memory)
-    → ◌≡◌ {A = Result (Unit {0}) CellFault} (Err e) (Err Memory)
-found_no_memory Device is = absurd (device_is_other is)
-found_no_memory Memory is = refl
-
-failed_too : (e : CellFault) → ◌≡◌ {A = Result (Unit {0}) CellFault} (Err e) (Err Device)
-    → ◌≡◌ {A = Result (Unit {0}) CommitFault} (Err (commit_fault e)) (Err commits.Device)
-failed_too Device is = refl
-failed_too Memory is = absurd (cc is)
+use Rattle.book.proofs.Commits.{device_failed, found_no_memory, failed_too}
 
 module _ {C : Type 0} (device : C → devices.Device)
     (only_now : (cell : C) (c : List ℕ) → (device cell).left_since (device cell).moment c
@@ -74,17 +46,16 @@ module _ {C : Type 0} (device : C → devices.Device)
       → IsErrAnd result (λ fault. fault ≡ commits.Memory) → Answers old after result
   not_tried after kept (Ok x) is = absurd is
   not_tried after kept (Err fault) is =
-      subst (λ (e : CommitFault). Answers old after (Err e)) (sym is)
-      (record {
+      rw is (record {
         committed = tt;
         durable = tt;
         recovers = tt;
-        device_failed = λ e. absurd (memory_is_other e);
+        device_failed = λ e. absurd (cc e);
         memory = λ e. record { records = kept; opened = refl; bytes = refl };
         any_moment = not_begun owner records r device only_now old held;
         cause = record {
           later = le_refl (device old).failures;
-          failed = λ e. absurd (memory_is_other e);
+          failed = λ e. absurd (cc e);
           same = λ no. refl;
         };
         fuse = λ f is. refl;
@@ -111,7 +82,7 @@ module _ {C : Type 0} (device : C → devices.Device)
         → Answers new after result
     not_written after kept e (Ok x) is unknown memory cause fuse calls = absurd is
     not_written after kept e (Err fault) is unknown memory cause fuse calls =
-        subst (λ (x : CommitFault). Answers new after (Err x)) (sym is) (record {
+        rw is (record {
           committed = tt;
           durable = tt;
           recovers = tt;
@@ -151,20 +122,16 @@ module _ {C : Type 0} (device : C → devices.Device)
       committed = (all, refl);
       durable = leaves_text owner after (device new).image (sound.text refl);
       recovers = sound_recovers owner after (device new).image sound;
-      device_failed = λ e. absurd (ok_is_other commits.Device e);
-      memory = λ e. absurd (ok_is_other commits.Memory e);
+      device_failed = λ e. absurd (cc e);
+      memory = λ e. absurd (cc e);
       any_moment = written owner records r device only_now old held new bytes is_record same run;
       cause = record {
         later = cause.later;
-        failed = λ e. absurd (ok_is_other commits.Device e);
-        same = λ no. cause.same cell_ok_is_other;
+        failed = λ e. absurd (cc e);
+        same = λ no. cause.same (λ e. cc e);
       };
       fuse = λ f at. fuse f (seen_of (device old).image) at
           (rests owner records (device old).image held);
-      calls = λ f at. subst (λ (b : List ℕ).
-          IsIn (after_append_and_sync b (state_of (device old) f)) (device new)) same (calls f at);
+      calls = λ f at. rw same at (calls f at);
       whose = refl;
     }
-      where
-        cell_ok_is_other : ◌≡◌ {A = Result (Unit {0}) CellFault} (Ok tt) (Err Device) → ⊥
-        cell_ok_is_other e = cc

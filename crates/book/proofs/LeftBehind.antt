@@ -1,10 +1,9 @@
 -- What a crash may leave of a cell at rest, whose bytes are appended to or cut, and synced.
-use Rattle.std.proofs.Common.{◌≡◌, ◌+◌, ◌++◌, ◌≤◌, ℕ, List, length, take, Result, Ok, refl}
-use Rattle.std.proofs.Common.{sym, arith}
+use Rattle.std.proofs.Common.{◌≡◌, ◌+◌, ◌++◌, ◌≤◌, ℕ, List, length, take, Result, Ok, refl, sym}
+use Rattle.std.proofs.Common.{arith}
 use Rattle.std.proofs.lemmas.List.{append-nil, take_all}
 use Rattle.cell_device.specs.declared.fault.CellFault.{CellFault}
-use Rattle.cell_device.specs.Images.{IfKnown, MayLeave, with_bytes, cut_to, all_synced}
-use Rattle.cell_device.specs.Images.{same_image}
+use Rattle.cell_device.specs.Images.{IfKnown, MayLeave, with_bytes, cut_to, all_synced, same_image}
 use Rattle.cell_device.specs.Calls.{Calls}
 use Rattle.cell_device.specs.Devices.{Device}
 use Rattle.cell_device.specs.Time.{LeavesOnly}

@@ -1,27 +1,25 @@
 -- A sync of one record is its commit.
-use Rattle.std.proofs.Common.{◌≡◌, inl, inr, ℕ, suc, zero, List, [], ◌∷◌, ◌++◌, length, take}
-use Rattle.std.proofs.Common.{Option}
-use Rattle.std.proofs.Common.{Some, None, Result, Ok, Err, refl, ap, subst}
-use Rattle.std.proofs.Common.{append-nil}
+use Rattle.std.proofs.Common.{◌≡◌, inl, inr, ℕ, suc, zero, List, [], ◌∷◌, ◌++◌, length}
+use Rattle.std.proofs.Common.{Option, Some, None, Result, Ok, Err, refl, subst, append-nil}
 use Rattle.std.proofs.lemmas.Bool.Decides.{leb_tells}
 use Rattle.cell_device.specs.declared.fuse.FuseState.{FuseState}
 use Rattle.cell_device.specs.declared.fuse.FuseState.TheVariants.{Clear, Burning, Stopped}
-use Rattle.cell_device.specs.Devices as devices
 use Rattle.cell_device.specs.Images.{Image, IfKnown}
 use Rattle.cell_device.specs.States.{CellState, IsIn}
 use Rattle.cell_device.specs.Time.{LeavesOnly}
 use Rattle.records.specs.declared.owner.Owner.{Owner}
 use Rattle.records.specs.declared.record.Record.{Record}
-use Rattle.records.specs.Journals.{DecodesTo}
 use Rattle.records.specs.Layout.{record_bytes}
 use Rattle.records.specs.Texts.{kept_records}
 use Rattle.book.specs.declared.fault.CommitFault.{CommitFault}
-use Rattle.book.specs.declared.fault.CommitFault.TheVariants as commits
 use Rattle.book.specs.Batches.{Syncs, SaysFirst, in_first, read_after_firing, sync_outcome}
 use Rattle.book.specs.Batches.{after_syncing}
 use Rattle.book.specs.Committed.{Commits, SaysWithOrWithout, read_after_fuse, commit_outcome}
-use Rattle.book.specs.Committed.{CommitOutcome, CameOut, after_commit, after_append_and_sync}
+use Rattle.book.specs.Committed.{after_commit}
 use Rattle.book.specs.OpenBooks.{OpenBook}
+use Rattle.cell_device.specs.Devices as devices
+use Rattle.book.specs.declared.fault.CommitFault.TheVariants as commits
+use Rattle.std.proofs.Math.Seq.{take-nil}
 
 -- its first bytes hold it, or not
 first_is : (k : ℕ) (records : List Record) (r : Record)
@@ -40,20 +38,12 @@ read_is Stopped records r = refl
 
 outcome_is : (f : FuseState) (records : List Record) (r : Record)
     → sync_outcome f records (r ∷ []) ≡ commit_outcome f records r
-outcome_is f records r =
-    ap (λ (l : List Record). record (commit_outcome f records r) { read_after = l })
-    (read_is f records r)
+outcome_is f records r = rw (read_is f records r) refl
 
 with_or_without : (owner : Owner) (records : List Record) (r : Record) (c : List ℕ)
     → SaysFirst owner records (r ∷ []) c → SaysWithOrWithout owner records r c
-with_or_without owner records r c (zero, says) =
-    inl (subst (λ (l : List Record). DecodesTo owner c (Ok l)) (append-nil records) says)
-with_or_without owner records r c (suc n, says) =
-    inr (subst (λ (l : List Record). DecodesTo owner c (Ok (records ++ r ∷ l))) (none n) says)
-  where
-    none : (n : ℕ) → take {A = Record} n [] ≡ []
-    none zero = refl
-    none (suc n) = refl
+with_or_without owner records r c (zero, says) = inl (rw (append-nil records) at says)
+with_or_without owner records r c (suc n, says) = inr (rw (take-nil n) at says)
 
 says_so : (image : Option Image) (owner : Owner) (records : List Record) (r : Record) (c : List ℕ)
     → IfKnown image (λ i. SaysFirst owner records (r ∷ []) c)
@@ -63,9 +53,8 @@ says_so (Some i) owner records r c says = with_or_without owner records r c says
 
 state_is : (r : Record) (result : Result (Unit {0}) CommitFault) (s : CellState)
     → after_syncing (r ∷ []) result s ≡ after_commit r result s
-state_is r (Ok x) s = ap (λ (b : List ℕ). after_append_and_sync b s) (append-nil (record_bytes r))
-state_is r (Err commits.Device) s =
-    ap (λ (b : List ℕ). after_append_and_sync b s) (append-nil (record_bytes r))
+state_is r (Ok x) s = rw (append-nil (record_bytes r)) refl
+state_is r (Err commits.Device) s = rw (append-nil (record_bytes r)) refl
 state_is r (Err commits.Memory) s = refl
 state_is r (Err commits.NeedsOpen) s = refl
 
@@ -79,9 +68,6 @@ weaker old new P Q run so = record {
     | inr now ↦ inr (so c now)
   ];
 }
-
-some : (r : Record) → ◌≡◌ {A = List Record} (r ∷ []) [] → ⊥
-some r e = cc e
 
 pub is_commit : {C : Type 0} (device : C → devices.Device) (old new : OpenBook C) (r : Record)
     (result : Result (Unit {0}) CommitFault)
@@ -98,10 +84,8 @@ is_commit device old new r result syncs = record {
       syncs.any_moment
       (λ c says. says_so (device old.cell).image old.owner old.records r c says);
   cause = syncs.cause;
-  fuse = λ f is. subst (λ (o : CommitOutcome).
-      CameOut o old.owner result (device old.cell) (device new.cell))
-      (outcome_is f old.records r) (syncs.fuse (some r) f is);
+  fuse = λ f is. rw (outcome_is f old.records r) at (syncs.fuse (λ e. cc e) f is);
   calls = λ f is. subst (λ (s : CellState). IsIn s (device new.cell)) (state_is r result _)
-      (syncs.calls (some r) f is);
+      (syncs.calls (λ e. cc e) f is);
   whose = syncs.whose;
 }

@@ -1,9 +1,8 @@
 -- Records after a text: a crash leaves a prefix of them.
 use Rattle.std.proofs.Common.{◌≡◌, inl, inr, ℕ, suc, ◌+◌, ◌-◌, ◌≤◌, List, [], ◌∷◌, ◌++◌, length}
-use Rattle.std.proofs.Common.{take}
-use Rattle.std.proofs.Common.{drop, Ok, refl, sym, ap, subst, ◌∙◌, arith, length-append}
+use Rattle.std.proofs.Common.{take, drop, Ok, refl, sym, ap, ◌∙◌, arith, length-append}
 use Rattle.std.proofs.lemmas.Bool.Decides.{leb_tells}
-use Rattle.std.proofs.lemmas.List.{append-nil, take_all, take-append-le, take-append-drop}
+use Rattle.std.proofs.lemmas.List.{append-nil, take-append-le, take-append-drop}
 use Rattle.std.proofs.lemmas.List.{append_assoc, length-take}
 use Rattle.cell_device.specs.Images.{Image, Leaves, at_rest, keeps}
 use Rattle.records.specs.declared.owner.Owner.{Owner}
@@ -11,29 +10,22 @@ use Rattle.records.specs.declared.record.Record.{Record}
 use Rattle.records.specs.Journals.{DecodesTo}
 use Rattle.records.specs.Layout.{record_bytes}
 use Rattle.records.specs.Records.{AreRecords}
-use Rattle.records.specs.Texts.{IsTextOf, kept_records}
+use Rattle.records.specs.Texts.{IsTextOf}
 use Rattle.records.proofs.OneReading.{same_records_said}
 use Rattle.records.proofs.Texts.{text_says, text_longer, text_atomic}
 use Rattle.book.specs.Batches.{all_bytes, in_first, SaysFirst, with_records, all_but, IsInUseBy}
-use Rattle.book.proofs.AtRest.{keeps_appended, take_past}
+use Rattle.book.proofs.AtRest.{keeps_appended}
+use Rattle.std.proofs.Math.Seq.{take-append-add, take-nil}
 
 -- a text, and the bytes of more records, are a text of all
 pub texts_longer : (owner : Owner) (records new : List Record) (text : List ℕ)
     → IsTextOf owner records text → AreRecords new
     → IsTextOf owner (records ++ new) (text ++ all_bytes new)
-texts_longer owner records [] text is fine =
-    subst (λ (l : List Record). IsTextOf owner l (text ++ [])) (sym (append-nil records))
-    (subst (IsTextOf owner records) (sym (append-nil text)) is)
+texts_longer owner records [] text is fine = rw (append-nil records, append-nil text) is
 texts_longer owner records (r ∷ rs) text is fine =
     let longer = text_longer owner records text r is fine.0 in
     let all = texts_longer owner (records ++ r ∷ []) rs (text ++ record_bytes r) longer fine.1 in
-    subst (λ (l : List Record). IsTextOf owner l (text ++ (record_bytes r ++ all_bytes rs)))
-    (append_assoc records (r ∷ []) rs)
-    (subst (IsTextOf owner ((records ++ r ∷ []) ++ rs))
-    (append_assoc text (record_bytes r) (all_bytes rs)) all)
-
-take_none : (k : ℕ) → take {A = ℕ} k [] ≡ []
-take_none k = take_all k [] (omega arith)
+    rw (append_assoc records (r ∷ []) rs, append_assoc text (record_bytes r) (all_bytes rs)) at all
 
 -- the first k of their bytes say those that are whole in them
 pub texts_atomic : (owner : Owner) (records new : List Record) (text : List ℕ) (k : ℕ)
@@ -41,41 +33,27 @@ pub texts_atomic : (owner : Owner) (records new : List Record) (text : List ℕ)
     → DecodesTo owner (text ++ take k (all_bytes new)) (Ok (records ++ in_first k new))
 unfolding in_first
 texts_atomic owner records [] text k is fine =
-    subst (λ (b : List ℕ). DecodesTo owner (text ++ b) (Ok (records ++ []))) (sym (take_none k))
-    (subst (λ (l : List Record). DecodesTo owner (text ++ []) (Ok l)) (sym (append-nil records))
-    (subst (λ (b : List ℕ). DecodesTo owner b (Ok records)) (sym (append-nil text))
-    (text_says owner records text is)))
+    rw (take-nil k, append-nil records, append-nil text) (text_says owner records text is)
 texts_atomic owner records (r ∷ rs) text k is fine =
     elim (leb_tells (length (record_bytes r)) k) [
       | inl t ↦
           let n = length (record_bytes r) in
-          let past : k ≡ n + (k - n) = omega (arith, t.1) in
+          let past : n + (k - n) ≡ k = omega (arith, t.1) in
           let bytes : take k (record_bytes r ++ all_bytes rs)
           ≡ record_bytes r ++ take (k - n) (all_bytes rs) =
-          ap (λ (m : ℕ). take m (record_bytes r ++ all_bytes rs)) past
-          ∙ take_past (record_bytes r) (all_bytes rs) (k - n) in
-          let first : in_first k (r ∷ rs) ≡ r ∷ in_first (k - n) rs = rw t.0 refl in
+          rw past at (take-append-add (record_bytes r) (all_bytes rs) (k - n)) in
           let longer = text_longer owner records text r is fine.0 in
           let said = texts_atomic owner (records ++ r ∷ []) rs (text ++ record_bytes r) (k - n)
           longer fine.1 in
-          subst (λ (b : List ℕ). DecodesTo owner (text ++ b) (Ok (records ++ in_first k (r ∷ rs))))
-          (sym bytes)
-          (subst (λ (l : List Record). DecodesTo owner
-          (text ++ (record_bytes r ++ take (k - n) (all_bytes rs))) (Ok (records ++ l))) (sym first)
-          (subst (λ (l : List Record). DecodesTo owner
-          (text ++ (record_bytes r ++ take (k - n) (all_bytes rs))) (Ok l))
-          (append_assoc records (r ∷ []) (in_first (k - n) rs))
-          (subst (λ (b : List ℕ). DecodesTo owner b
-          (Ok ((records ++ r ∷ []) ++ in_first (k - n) rs)))
-          (append_assoc text (record_bytes r) (take (k - n) (all_bytes rs))) said)))
+          rw (bytes, t.0)
+          (rw (
+            append_assoc records (r ∷ []) (in_first (k - n) rs),
+            append_assoc text (record_bytes r) (take (k - n) (all_bytes rs)),
+          ) at said)
       | inr f ↦
           let bytes : take k (record_bytes r ++ all_bytes rs) ≡ take k (record_bytes r) =
           take-append-le k (record_bytes r) (all_bytes rs) (omega (arith, f.1)) in
-          let none : kept_records k records r ≡ records ++ in_first k (r ∷ rs) = rw f.0 refl in
-          subst (λ (b : List ℕ). DecodesTo owner (text ++ b) (Ok (records ++ in_first k (r ∷ rs))))
-          (sym bytes)
-          (subst (λ (l : List Record). DecodesTo owner (text ++ take k (record_bytes r)) (Ok l))
-          none (text_atomic owner records text r k is fine.0))
+          rw (bytes, f.0) (rw f.0 at (text_atomic owner records text r k is fine.0))
     ]
 
 -- those are a prefix
@@ -84,23 +62,16 @@ unfolding in_first
 in_first_is k [] = (0, refl)
 in_first_is k (r ∷ rs) = elim (leb_tells (length (record_bytes r)) k) [
   | inl t ↦
-      let n = length (record_bytes r) in
-      let rest = in_first_is (k - n) rs in
-      let first : in_first k (r ∷ rs) ≡ r ∷ in_first (k - n) rs = rw t.0 refl in
-      (suc rest.0, first ∙ ap (λ (l : List Record). r ∷ l) rest.1)
-  | inr f ↦
-      let none : in_first k (r ∷ rs) ≡ [] = rw f.0 refl in (0, none)
+      let rest = in_first_is (k - length (record_bytes r)) rs in (suc rest.0, rw (t.0, rest.1) refl)
+  | inr f ↦ (0, rw f.0 refl)
 ]
 
 pub says_first : (owner : Owner) (records new : List Record) (text : List ℕ) (k : ℕ)
     → IsTextOf owner records text → AreRecords new
     → SaysFirst owner records new (text ++ take k (all_bytes new))
 says_first owner records new text k is fine =
-    let first = in_first_is k new in (
-      first.0,
-      subst (λ (l : List Record). DecodesTo owner (text ++ take k (all_bytes new))
-          (Ok (records ++ l))) first.1 (texts_atomic owner records new text k is fine),
-    )
+    let first = in_first_is k new in
+    (first.0, rw first.1 at (texts_atomic owner records new text k is fine))
 
 -- ---- appends with no sync between them
 
@@ -112,8 +83,7 @@ appended : (synced bytes : List ℕ) (new : List Record)
 unfolding with_records made
 appended synced bytes [] = ap (made synced) (sym (append-nil bytes))
 appended synced bytes (r ∷ rs) =
-    appended synced (bytes ++ record_bytes r) rs
-    ∙ ap (made synced) (append_assoc bytes (record_bytes r) (all_bytes rs))
+    rw (appended synced (bytes ++ record_bytes r) rs, append_assoc) refl
 
 -- what a crash leaves then
 leaves_first : (text left : List ℕ) (new : List Record)
@@ -131,8 +101,7 @@ pub prefix_left : (owner : Owner) (records new : List Record) (text left : List 
     → SaysFirst owner records new left
 prefix_left owner records new text left is fine left_so =
     let first = leaves_first text left new left_so in
-    subst (SaysFirst owner records new) (sym first.1)
-    (says_first owner records new text first.0 is fine)
+    rw first.1 (says_first owner records new text first.0 is fine)
 
 -- ---- what a reader may count
 
@@ -152,10 +121,8 @@ pub all_but_these : (n : ℕ) (owner : Owner) (i : Image) (seen left : List ℕ)
     → (others : List Record) × (kept ≡ all_but n found ++ others)
 all_but_these n owner i seen left found kept (records, text, new, is, fine, few, image) a b says
     keeps =
-    let one = found_is owner records new text seen found is fine
-    (subst (λ (j : Image). Leaves j seen) image a) says in
-    let other = found_is owner records new text left kept is fine
-    (subst (λ (j : Image). Leaves j left) image b) keeps in
+    let one = found_is owner records new text seen found is fine (rw image at a) says in
+    let other = found_is owner records new text left kept is fine (rw image at b) keeps in
     let m = length found - n in
     let within : m ≤ length records = omega (
       arith,
@@ -168,7 +135,10 @@ all_but_these n owner i seen left found kept (records, text, new, is, fine, few,
     ap (λ (l : List Record). take m l) one.1 ∙ take-append-le m records (take one.0 new) within in
     let rest = take other.0 new in (
       drop m records ++ rest,
-      other.1 ∙ ap (λ (l : List Record). l ++ rest) (sym (take-append-drop m records))
-          ∙ append_assoc (take m records) (drop m records) rest
-          ∙ ap (λ (l : List Record). l ++ (drop m records ++ rest)) (sym first),
+      cc (
+        other.1,
+        first,
+        append_assoc (take m records) (drop m records) rest,
+        take-append-drop {A = Record} m records,
+      ),
     )

@@ -1,7 +1,7 @@
 -- What a sync of the records of a batch answers and leaves, by how far it came.
 use Rattle.std.proofs.Common.{◌≡◌, ◌≢◌, ℕ, false, List, [], ◌++◌, take, drop, Option, Some, None}
-use Rattle.std.proofs.Common.{Result, Ok, Err, refl, sym, ap, subst, ◌∙◌, Bool, true, eqb, ◌-◌}
-use Rattle.std.proofs.Common.{◌∷◌, length, arith}
+use Rattle.std.proofs.Common.{Result, Ok, Err, refl, sym, ap, ◌∙◌, Bool, true, eqb, ◌-◌}
+use Rattle.std.proofs.Common.{◌∷◌, length}
 use Rattle.std.proofs.lemmas.Bool.{eqb-true, eqb-false}
 use Rattle.std.proofs.Math.Nat.{le_refl}
 use Rattle.std.proofs.lemmas.List.{append-nil, take-append-drop, length-drop}
@@ -27,7 +27,7 @@ use Rattle.book.specs.declared.fault.CommitFault.{CommitFault}
 use Rattle.book.specs.declared.fault.CommitFault.TheVariants as commits
 use Rattle.book.specs.Batches.{Syncs, SaysFirst, all_bytes, sync_outcome, read_after_firing}
 use Rattle.book.specs.Batches.{after_syncing}
-use Rattle.book.specs.Committed.{CameOut, after_append_and_sync}
+use Rattle.book.specs.Committed.{CameOut}
 use Rattle.book.specs.Faults.{commit_fault}
 use Rattle.book.specs.OpenBooks.{HoldsText, ReadSays}
 use Rattle.book.specs.inner.Appended.{AppendCameOut, append_outcome, after_appending, book_of}
@@ -38,35 +38,8 @@ use Rattle.book.proofs.AtRest.{rest_leaves}
 use Rattle.book.proofs.Commits.{leaves_text, recovers, rests, holds}
 use Rattle.book.proofs.Moments.{started, weaker}
 use Rattle.book.proofs.Prefixes.{texts_longer, texts_atomic, says_first}
-
-memory_is_other : ◌≡◌ {A = Result (Unit {0}) CommitFault} (Err commits.Memory) (Err commits.Device)
-    → ⊥
-memory_is_other e = cc
-
-device_is_other : ◌≡◌ {A = Result (Unit {0}) CommitFault} (Err commits.Device) (Err commits.Memory)
-    → ⊥
-device_is_other e = cc
-
-ok_is_other : (e : CommitFault) → ◌≡◌ {A = Result (Unit {0}) CommitFault} (Ok tt) (Err e) → ⊥
-ok_is_other e is = cc
-
--- a refusal of the cell, and that of the sync
-device_failed : (e : CellFault)
-    → ◌≡◌ {A = Result (Unit {0}) CommitFault} (Err (commit_fault e)) (Err commits.Device)
-    → ◌≡◌ {A = Result (Unit {0}) CellFault} (Err e) (Err Device)
-device_failed Device is = refl
-device_failed Memory is = absurd (memory_is_other is)
-
-found_no_memory : (e : CellFault)
-    → ◌≡◌ {A = Result (Unit {0}) CommitFault} (Err (commit_fault e)) (Err commits.Memory)
-    → ◌≡◌ {A = Result (Unit {0}) CellFault} (Err e) (Err Memory)
-found_no_memory Device is = absurd (device_is_other is)
-found_no_memory Memory is = refl
-
-failed_too : (e : CellFault) → ◌≡◌ {A = Result (Unit {0}) CellFault} (Err e) (Err Device)
-    → ◌≡◌ {A = Result (Unit {0}) CommitFault} (Err (commit_fault e)) (Err commits.Device)
-failed_too Device is = refl
-failed_too Memory is = absurd (cc is)
+use Rattle.book.proofs.Commits.{device_failed, found_no_memory, failed_too}
+use Rattle.std.proofs.lemmas.List.{nil_from_length}
 
 -- ---- the records after the first so many, as the code takes them
 
@@ -74,12 +47,7 @@ abbrev after : List Record → ℕ → List Record
 after all n = take (length all - n) (drop n all)
 
 pub after_is : (all : List Record) (n : ℕ) → after all n ≡ drop n all
-after_is all n = ap (λ (m : ℕ). take m (drop n all)) (sym (length-drop n all))
-    ∙ take-length (drop n all)
-
-none_of : (xs : List Record) → eqb (length xs) 0 ≡ true → xs ≡ []
-none_of [] e = refl
-none_of (x ∷ xs) e = absurd (omega (arith, eqb-true (length (x ∷ xs)) 0 e))
+after_is all n = rw (← length-drop n all) (take-length (drop n all))
 
 some_of : (xs : List Record) → eqb (length xs) 0 ≡ false → xs ≢ []
 some_of [] e = absurd (eqb-false (length {A = Record} []) 0 e refl)
@@ -87,7 +55,8 @@ some_of (x ∷ xs) e = λ is. cc is
 
 pub is_none : (all : List Record) (n : ℕ) (empty : Bool) → empty ≡ eqb (length (after all n)) 0
     → empty ≡ true → drop n all ≡ []
-is_none all n empty is e = sym (after_is all n) ∙ none_of (after all n) (sym is ∙ e)
+is_none all n empty is e =
+    sym (after_is all n) ∙ nil_from_length (after all n) (eqb-true _ _ (sym is ∙ e))
 
 pub is_some : (all : List Record) (n : ℕ) (empty : Bool) → empty ≡ eqb (length (after all n)) 0
     → empty ≡ false → drop n all ≢ []
@@ -109,12 +78,9 @@ module _ (owner : Owner) (records new : List Record) where
   old_says : (old : Option Image) (c : List ℕ) → HoldsText owner records old → MayLeave old c
       → IfKnown old (λ i. SaysFirst owner records new c)
   old_says None c held left = tt
-  old_says (Some i) c held left = (
-    0,
-    subst (λ (l : List Record). DecodesTo owner c (Ok l)) (sym (append-nil records))
-        (subst (λ (b : List ℕ). DecodesTo owner b (Ok records))
-        (sym (rest_leaves i.seen i c held.1 left)) (text_says owner records i.seen held.0)),
-  )
+  old_says (Some i) c held left =
+      let said = text_says owner records i.seen held.0 in
+      (0, rw (append-nil, rest_leaves i.seen i c held.1 left) said)
 
   new_says : (old : Option Image) (bytes c : List ℕ) → HoldsText owner records old → AreRecords new
       → bytes ≡ all_bytes new
@@ -122,20 +88,15 @@ module _ (owner : Owner) (records new : List Record) where
       → IfKnown old (λ i. SaysFirst owner records new c)
   new_says None bytes c held are e left = tt
   new_says (Some i) bytes c held are e (k, left) =
-      let there : c ≡ i.seen ++ take k (all_bytes new) = left
-      ∙ ap (λ (b : List ℕ). i.seen ++ take k b) e in
-      subst (SaysFirst owner records new) (sym there)
-      (says_first owner records new i.seen k held.0 are)
+      rw (left, e) (says_first owner records new i.seen k held.0 are)
 
   -- what a read gives after the fuse has fired
   said_after : (f : FuseState) (text : List ℕ) → IsTextOf owner records text → AreRecords new
       → DecodesTo owner (text ++ take (bytes_kept f) (all_bytes new))
       (Ok (read_after_firing f records new))
-  said_after Clear text is are = subst (λ (b : List ℕ). DecodesTo owner b (Ok records))
-      (sym (append-nil text)) (text_says owner records text is)
   said_after (Burning f) text is are = texts_atomic owner records new text f.kept is are
-  said_after Stopped text is are = subst (λ (b : List ℕ). DecodesTo owner b (Ok records))
-      (sym (append-nil text)) (text_says owner records text is)
+  said_after Clear text is are = rw (append-nil text) (text_says owner records text is)
+  said_after Stopped text is are = rw (append-nil text) (text_says owner records text is)
 
   seen_says : (f : FuseState) (bytes : List ℕ) (old now : Option Image)
       → HoldsText owner records old → AreRecords new
@@ -143,15 +104,9 @@ module _ (owner : Owner) (records new : List Record) where
       → IfKnown now (λ i. i.seen ≡ seen_of old ++ take (bytes_kept f) bytes)
       → ReadSays owner now (Ok (read_after_firing f records new))
   seen_says f bytes old None held are e unknown seen = tt
-  seen_says f bytes None (Some j) held are e unknown seen = absurd (none_some (unknown refl))
-    where
-      none_some : (let o : Option Image = Some j in o ≡ None) → ⊥
-      none_some e = absurd (cc e)
+  seen_says f bytes None (Some j) held are e unknown seen = absurd (cc (unknown refl))
   seen_says f bytes (Some i) (Some j) held are e unknown seen =
-      let there : j.seen ≡ i.seen ++ take (bytes_kept f) (all_bytes new) = seen
-      ∙ ap (λ (b : List ℕ). i.seen ++ take (bytes_kept f) b) e in
-      subst (λ (b : List ℕ). DecodesTo owner b (Ok (read_after_firing f records new))) (sym there)
-      (said_after f i.seen held.0 are)
+      rw (seen, e) (said_after f i.seen held.0 are)
 
   came_out : (old now : devices.Device) (e : CellFault) (f : FuseState) (bytes : List ℕ)
       → HoldsText owner records old.image → AreRecords new → bytes ≡ all_bytes new
@@ -170,20 +125,16 @@ module _ (owner : Owner) (records new : List Record) where
       → HoldsText owner records old → AreRecords new → bytes ≡ all_bytes new
       → records ++ new ≡ all → (old ≡ None → now ≡ None) → RestsAt (seen_of old ++ bytes) now
       → HoldsText owner all now
-  holds_all None now bytes all held are e both unknown rest =
-      subst (HoldsText owner all) (sym (unknown refl)) tt
+  holds_all None now bytes all held are e both unknown rest = rw (unknown refl) tt
   holds_all (Some i) now bytes all held are e both unknown rest =
       let longer : IsTextOf owner all (i.seen ++ bytes) =
-      subst (λ (l : List Record). IsTextOf owner l (i.seen ++ bytes)) both
-      (subst (λ (b : List ℕ). IsTextOf owner (records ++ new) (i.seen ++ b)) (sym e)
-      (texts_longer owner records new i.seen held.0 are)) in
+      rw (← both, e) (texts_longer owner records new i.seen held.0 are) in
       holds owner all (i.seen ++ bytes) now longer rest
 
 leaves_as : (e : CellFault) (new : List Record) (bytes : List ℕ) (s : CellState)
     (now : devices.Device) → bytes ≡ all_bytes new → IsIn (after_appending bytes (Err e) s) now
     → IsIn (after_syncing new (Err (commit_fault e)) s) now
-leaves_as Device new bytes s now same is =
-    subst (λ (b : List ℕ). IsIn (after_append_and_sync b s) now) same is
+leaves_as Device new bytes s now same is = rw same at is
 leaves_as Memory new bytes s now same is = is
 
 module _ {C : Type 0} (device : C → devices.Device)
@@ -207,20 +158,19 @@ module _ {C : Type 0} (device : C → devices.Device)
   -- no record waits
   pub none_waits : drop n all ≡ [] → Answers old (Ok tt)
   none_waits none =
-      let same : all ≡ take n all = sym (take-append-drop n all)
-      ∙ ap (λ (l : List Record). take n all ++ l) none ∙ append-nil (take n all) in
-      let there : HoldsText owner all (device old).image =
-      subst (λ (l : List Record). HoldsText owner l (device old).image) (sym same) held in
+      let same : all ≡ take n all =
+      sym (rw (none, append-nil) at (take-append-drop {A = Record} n all)) in
+      let there : HoldsText owner all (device old).image = rw (← same) at held in
       record {
         committed = (sym (take-append-drop n all), refl);
         durable = leaves_text owner all (device old).image there;
         recovers = recovers owner all (device old).image there;
-        device_failed = λ e. absurd (ok_is_other commits.Device e);
-        memory = λ e. absurd (ok_is_other commits.Memory e);
+        device_failed = λ e. absurd (cc e);
+        memory = λ e. absurd (cc e);
         any_moment = not_begun;
         cause = record {
           later = le_refl (device old).failures;
-          failed = λ e. absurd (ok_is_other commits.Device e);
+          failed = λ e. absurd (cc e);
           same = λ no. refl;
         };
         fuse = λ some. absurd (some none);
@@ -234,17 +184,16 @@ module _ {C : Type 0} (device : C → devices.Device)
       → IsErrAnd result (λ fault. fault ≡ commits.Memory) → Answers old result
   not_tried some (Ok x) is = absurd is
   not_tried some (Err fault) is =
-      subst (λ (e : CommitFault). Answers old (Err e)) (sym is)
-      (record {
+      rw is (record {
         committed = tt;
         durable = tt;
         recovers = tt;
-        device_failed = λ e. absurd (memory_is_other e);
+        device_failed = λ e. absurd (cc e);
         memory = λ e. record { records = refl; opened = refl; bytes = refl };
         any_moment = not_begun;
         cause = record {
           later = le_refl (device old).failures;
-          failed = λ e. absurd (memory_is_other e);
+          failed = λ e. absurd (cc e);
           same = λ no. refl;
         };
         fuse = λ some f is. refl;
@@ -281,7 +230,7 @@ module _ {C : Type 0} (device : C → devices.Device)
         → Answers now result
     not_written e (Ok x) is unknown memory cause fuse calls = absurd is
     not_written e (Err fault) is unknown memory cause fuse calls =
-        subst (λ (x : CommitFault). Answers now (Err x)) (sym is) (record {
+        rw is (record {
           committed = tt;
           durable = tt;
           recovers = tt;
@@ -320,21 +269,17 @@ module _ {C : Type 0} (device : C → devices.Device)
       committed = (sym (take-append-drop n all), refl);
       durable = leaves_text owner all (device now).image there;
       recovers = recovers owner all (device now).image there;
-      device_failed = λ e. absurd (ok_is_other commits.Device e);
-      memory = λ e. absurd (ok_is_other commits.Memory e);
+      device_failed = λ e. absurd (cc e);
+      memory = λ e. absurd (cc e);
       any_moment = written;
       cause = record {
         later = cause.later;
-        failed = λ e. absurd (ok_is_other commits.Device e);
-        same = λ no. cause.same cell_ok_is_other;
+        failed = λ e. absurd (cc e);
+        same = λ no. cause.same (λ e. cc e);
       };
       fuse = λ some f at. fuse f (seen_of (device old).image) at
           (rests owner (take n all) (device old).image held);
-      calls = λ some f at. subst (λ (b : List ℕ).
-          IsIn (after_append_and_sync b (state_of (device old) f)) (device now)) same (calls f at);
+      calls = λ some f at. rw same at (calls f at);
       nothing = λ none. absurd (some none);
       whose = refl;
     }
-      where
-        cell_ok_is_other : ◌≡◌ {A = Result (Unit {0}) CellFault} (Ok tt) (Err Device) → ⊥
-        cell_ok_is_other e = cc

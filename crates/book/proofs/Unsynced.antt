@@ -1,6 +1,6 @@
 -- All but the last of the records that a reader finds in a cell in use outlive a crash.
-use Rattle.std.proofs.Common.{◌≡◌, inl, inr, ℕ, ◌+◌, ◌-◌, List, [], ◌∷◌, ◌++◌, length, take, drop}
-use Rattle.std.proofs.Common.{Option, Some, None, Ok, refl, sym, ap, subst, ◌∙◌, arith}
+use Rattle.std.proofs.Common.{◌≡◌, inl, inr, ℕ, ◌-◌, List, [], ◌∷◌, ◌++◌, length, take, drop}
+use Rattle.std.proofs.Common.{Option, Some, None, Ok, refl, sym, ap, ◌∙◌, arith}
 use Rattle.std.proofs.Common.{length-append, append-nil, append_assoc}
 use Rattle.std.specs.Option.{option_to_list}
 use Rattle.std.proofs.Math.Seq.{take-append_seam}
@@ -23,15 +23,9 @@ first_of : (records : List Record) (o p : Option Record) → (others : List Reco
 first_of records None p =
     let n = length (records ++ []) - 1 in (
       drop n records ++ option_to_list p,
-      ap (λ (l : List Record). l ++ option_to_list p)
-          (sym (take-append-drop n records)
-          ∙ ap (λ (l : List Record). take n l ++ drop n records) (sym (append-nil records)))
-          ∙ append_assoc (take n (records ++ [])) (drop n records) (option_to_list p),
+      rw (append-nil records, ← append_assoc, take-append-drop) refl,
     )
-first_of records (Some new) p = (
-  option_to_list p,
-  ap (λ (l : List Record). l ++ option_to_list p) (sym all),
-)
+first_of records (Some new) p = (option_to_list p, rw all refl)
   where
     all : synced_records (records ++ new ∷ []) ≡ records
     all = ap (λ (n : ℕ). take n (records ++ new ∷ []))
@@ -47,8 +41,7 @@ after_text : (owner : Owner) (records : List Record) (text : List ℕ) (new : Re
 after_text owner records text new bytes found is fine (k, left) says = (
   kept_record k new,
   same_records_said owner found (kept_records k records new) bytes says
-      (subst (λ (b : List ℕ). DecodesTo owner b (Ok (kept_records k records new)))
-      (sym (left ∙ keeps_appended k text (record_bytes new)))
+      (rw (left, keeps_appended k text (record_bytes new))
       (text_atomic owner records text new k is fine)),
 )
 
@@ -58,8 +51,7 @@ at_text : (owner : Owner) (records : List Record) (text bytes : List ℕ) (found
 at_text owner records text bytes found is (k, left) says = (
   None,
   same_records_said owner found records bytes says
-      (subst (λ (b : List ℕ). DecodesTo owner b (Ok records)) (sym (left ∙ keeps_same k text))
-      (text_says owner records text is))
+      (rw (left, keeps_same k text) (text_says owner records text is))
       ∙ sym (append-nil records),
 )
 
@@ -67,10 +59,7 @@ both : (records found kept : List Record) → (o : Option Record) × (found ≡ 
     → (p : Option Record) × (kept ≡ records ++ option_to_list p)
     → (others : List Record) × (kept ≡ synced_records found ++ others)
 both records found kept (o, one) (p, other) =
-    let first = first_of records o p in (
-      first.0,
-      other ∙ first.1 ∙ ap (λ (l : List Record). synced_records l ++ first.0) (sym one),
-    )
+    let first = first_of records o p in (first.0, rw (other, one) first.1)
 
 pub all_but_the_last : (owner : Owner) (i : Image) (seen left : List ℕ) (found kept : List Record)
     → IsInUse owner i → Leaves i seen → Leaves i left → DecodesTo owner seen (Ok found)
@@ -78,12 +67,12 @@ pub all_but_the_last : (owner : Owner) (i : Image) (seen left : List ℕ) (found
     → (others : List Record) × (kept ≡ synced_records found ++ others)
 all_but_the_last owner i seen left found kept (records, text, is, inl rests) a b says keeps =
     both records found kept
-    (at_text owner records text seen found is (subst (λ (j : Image). Leaves j seen) rests a) says)
-    (at_text owner records text left kept is (subst (λ (j : Image). Leaves j left) rests b) keeps)
+    (at_text owner records text seen found is (rw rests at a) says)
+    (at_text owner records text left kept is (rw rests at b) keeps)
 all_but_the_last owner i seen left found kept (records, text, is, inr (new, fine, more)) a b says
     keeps =
     both records found kept
     (after_text owner records text new seen found is fine
-    (subst (λ (j : Image). Leaves j seen) more a) says)
+    (rw more at a) says)
     (after_text owner records text new left kept is fine
-    (subst (λ (j : Image). Leaves j left) more b) keeps)
+    (rw more at b) keeps)

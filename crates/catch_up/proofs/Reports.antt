@@ -13,7 +13,7 @@ use Rattle.outcomes.specs.declared.fault.ProgramFault.{ProgramFault}
 use Rattle.outcomes.specs.declared.fault.ProgramFault.TheVariants as faults
 use Rattle.outcomes.specs.Outcomes.{no_memory}
 use Rattle.udp_site.specs.Traffic.{Move, Grows}
-use Rattle.site_commands.specs.Answers.{IsWritten}
+use Rattle.site_client.specs.Answers.{IsWritten}
 use Rattle.catch_up.specs.declared.said_answers.AskFault.{AskFault}
 use Rattle.catch_up.specs.declared.said_answers.AskFault.TheVariants.{Memory, Output}
 use Rattle.catch_up.specs.declared.rounds.Target.{Target}

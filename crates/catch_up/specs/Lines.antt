@@ -4,7 +4,7 @@ use Rattle.std.specs.Fmt.{decimal}
 use Rattle.fed_types.specs.declared.bag_id.BagId.{BagId}
 use Rattle.fed_types.specs.Bags.{same_bag}
 use Rattle.fed_types.specs.Slots.{SlotName}
-use Rattle.words.specs.Written.{slot_text, bag_text}
+use Rattle.tokens.specs.Written.{slot_text, bag_text}
 
 -- `known OBJ V HEX`: the site knows the bag that the source knows; or `other OBJ V HEX HEX`: it
 -- knows the first, and the source knows the second

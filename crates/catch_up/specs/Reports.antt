@@ -6,7 +6,7 @@ use Rattle.known_bags.specs.declared.known_bag.KnownBag.{KnownBag}
 use Rattle.outcomes.specs.declared.fault.ProgramFault.{ProgramFault}
 use Rattle.outcomes.specs.Outcomes.{Outcome, no_memory}
 use Rattle.udp_site.specs.Traffic.{Move, Grows}
-use Rattle.site_commands.specs.Answers.{IsWritten}
+use Rattle.site_client.specs.Answers.{IsWritten}
 use Rattle.catch_up.specs.declared.rounds.Target.{Target}
 use Rattle.catch_up.specs.Lines.{open_line, count_line}
 use Rattle.catch_up.specs.Rounds.{Answer, open_of, AreRounds, AreWhole, round_lines, same_after}

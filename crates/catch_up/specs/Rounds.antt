@@ -8,12 +8,12 @@ use Rattle.dgram.specs.declared.answers.QueryAnswer.{QueryAnswer}
 use Rattle.dgram.specs.declared.answers.QueryAnswer.TheVariants.{Known}
 use Rattle.known_bags.specs.declared.known_bag.KnownBag.{KnownBag}
 use Rattle.udp_site.specs.Traffic.{Move}
-use Rattle.site_commands.specs.declared.reply.ClientReply.{ClientReply}
-use Rattle.site_commands.specs.declared.reply.ClientReply.TheVariants.{ToDeposit, ToQuery}
-use Rattle.site_commands.specs.declared.reply.Wanted.TheVariants as wanted
-use Rattle.site_commands.specs.Replies.{Question, datagram_to, first_reply}
-use Rattle.site_commands.specs.Exchanges.{Asks, HasAsked}
-use Rattle.site_commands.specs.Recoveries.{recovery_of}
+use Rattle.site_client.specs.declared.reply.ClientReply.{ClientReply}
+use Rattle.site_client.specs.declared.reply.ClientReply.TheVariants.{ToDeposit, ToQuery}
+use Rattle.site_client.specs.declared.reply.Wanted.TheVariants as wanted
+use Rattle.site_client.specs.Replies.{Question, datagram_to, first_reply}
+use Rattle.site_client.specs.Exchanges.{Asks, HasAsked}
+use Rattle.site_client.specs.Recoveries.{recovery_of}
 use Rattle.catch_up.specs.declared.rounds.Target.{Target}
 use Rattle.catch_up.specs.Lines.{known_line}
 

@@ -3,7 +3,7 @@
 use clap::{Arg, ArgMatches, Command, value_parser};
 use fed_types::SiteNo;
 use json_lines::json_argument;
-use site_commands::{answer_argument, key_argument, members_argument, to_argument, words_argument};
+use site_client::{answer_argument, key_argument, members_argument, to_argument, words_argument};
 use std::alloc::{AllocError, Global};
 
 const ABOUT: &str = "Asks a site for all that others know, until it knows that too";

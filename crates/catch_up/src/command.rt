@@ -10,7 +10,7 @@ use counted_writes::CountedWriter;
 use json_lines::JsonLines;
 use known_bags::{DiskSources, KnownBag, push_sources, write_fault};
 use outcomes::ProgramFault;
-use site_commands::{Stop, write_stop};
+use site_client::{Stop, write_stop};
 use std::io;
 use std::io::Write;
 

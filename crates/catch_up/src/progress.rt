@@ -5,7 +5,7 @@ ghost use Rattle.catch_up.specs.Lines.{known_line, open_line, count_line};
 
 use fed_types::{BagId, Slot};
 use std::alloc::{AllocError, Global};
-use words::{push_bag, push_slot};
+use tokens::{push_bag, push_slot};
 
 /// `known OBJ V HEX`: the site knows the bag that the source knows; or `other OBJ V HEX HEX`: it
 /// knows the first, and the source knows the second.

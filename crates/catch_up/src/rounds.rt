@@ -20,7 +20,7 @@ use dgram::QueryAnswer;
 use fed_types::{BagId, SiteNo};
 use known_bags::KnownBag;
 use outcomes::ProgramFault;
-use site_commands::{Request, ask_for_bag};
+use site_client::{Request, ask_for_bag};
 use std::alloc::{AllocError, Global};
 use udp_site::Port;
 

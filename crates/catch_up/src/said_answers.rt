@@ -31,8 +31,8 @@ impl From<AllocError> for AskFault {
     }
 }
 
-/// Writes the line that says how many of how many have come to what was asked for. The answer is the
-/// status: 0 if all have.
+/// Writes the line that says how many of how many have come to what was asked for. The answer is
+/// the status: 0 if all have.
 pub fn write_count<W: CountedWrite>(
     alloc: Global,
     same: usize,

@@ -2,7 +2,7 @@
 
 use addresses::Address;
 use fed_types::SiteNo;
-use site_commands::{Stop, address_of, addresses_of, client_socket, keys_for, members_at};
+use site_client::{Stop, address_of, addresses_of, client_socket, keys_for, members_at};
 use udp_site::{UdpPort, Waits};
 
 /// Which site is to be asked.

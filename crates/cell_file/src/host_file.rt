@@ -16,8 +16,8 @@ pub struct HostFile {
     trust: Trust,
     alloc: Global,
     synced: SyncedFile,
-    /// Of what is synced, at most this many bytes are said to be: what comes after them may be torn,
-    /// and then an opening cuts it off.
+    /// Of what is synced, at most this many bytes are said to be: what comes after them may be
+    /// torn, and then an opening cuts it off.
     whole: u64,
 }
 

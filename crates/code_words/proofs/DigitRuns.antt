@@ -5,6 +5,7 @@ use Rattle.std.specs.Prelude.{Option, None, Some, nat_le, if◌then◌else◌}
 use Rattle.std.specs.Char.{is_ascii_hexdigit}
 use Rattle.std.specs.List.{prefix_len}
 use Rattle.std.proofs.lemmas.List.{drop-drop, drop_all}
+use Rattle.std.proofs.Math.Nat.{add-zero}
 use borrow.Author.Tests.{tests}
 use Rattle.code_words.specs.Keys.{hidden_digits, further}
 
@@ -59,19 +60,15 @@ enough (byte ∷ bytes) many =
 pub found_here : (begin : ℕ) (bytes : List ℕ) → 64 ≤ run_of (drop begin bytes)
     → found_after begin bytes ≡ Some (begin, begin + run_of (drop begin bytes))
 found_here begin bytes many =
-    let here : begin + 0 ≡ begin = omega arith in
-    ap (option_map (further begin)) (enough (drop begin bytes) many)
-    ∙ ap (λ place. Some (place, begin + run_of (drop begin bytes))) here
+    rw (enough (drop begin bytes) many, add-zero begin)
 
 -- where they are too few, what stands after them is looked at
 pub found_further : (begin : ℕ) (bytes : List ℕ) → run_of (drop begin bytes) < 64
     → found_after begin bytes ≡ found_after (begin + (run_of (drop begin bytes) + 1)) bytes
 found_further begin bytes few =
-    ap (option_map (further begin)) (skip_run (drop begin bytes) few)
-    ∙ (further_twice begin (run_of (drop begin bytes) + 1) _
-    ∙ ap
-    (λ rest. option_map (further (begin + (run_of (drop begin bytes) + 1))) (hidden_digits rest))
-    (drop-drop (run_of (drop begin bytes) + 1) begin bytes))
+    let run = run_of (drop begin bytes) + 1 in
+    rw (skip_run (drop begin bytes) few)
+    (further_twice begin run _ ∙ rw (drop-drop run begin bytes))
 
 nothing : hidden_digits [] ≡ None
 unfolding hidden_digits
@@ -81,8 +78,7 @@ nothing = refl
 pub found_none : (begin : ℕ) (bytes : List ℕ) → length bytes ≤ begin
     → found_after begin bytes ≡ None
 found_none begin bytes end =
-    ap (λ rest. option_map (further begin) (hidden_digits rest)) (drop_all begin bytes end)
-    ∙ ap (option_map (further begin)) nothing
+    rw (drop_all begin bytes end, nothing)
 
 -- and from the first byte on it is as it stands
 pub found_first : (bytes : List ℕ) → hidden_digits bytes ≡ found_after 0 bytes

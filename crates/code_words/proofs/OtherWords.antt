@@ -5,16 +5,12 @@ use Rattle.code_words.specs.Lines.{of_words, other}
 pub other_of_few : (line : List ℕ) (words : List (Bor (List ℕ))) → length words < 2
     → of_words line (map (λ word. word.now) words) ≡ other line
 unfolding of_words
-other_of_few line [] few = refl
+other_of_few line (a ∷ b ∷ words) few = absurd (omega arith)
 other_of_few line (a ∷ []) few = refl
-other_of_few line (a ∷ b ∷ words) few = absurd (omega (arith, few))
+other_of_few line [] few = refl
 
 pub other_of_many : (line : List ℕ) (words : List (Bor (List ℕ))) → 5 ≤ length words
     → of_words line (map (λ word. word.now) words) ≡ other line
 unfolding of_words
-other_of_many line [] many = absurd (omega (arith, many))
-other_of_many line (a ∷ []) many = absurd (omega (arith, many))
-other_of_many line (a ∷ b ∷ []) many = absurd (omega (arith, many))
-other_of_many line (a ∷ b ∷ c ∷ []) many = absurd (omega (arith, many))
-other_of_many line (a ∷ b ∷ c ∷ d ∷ []) many = absurd (omega (arith, many))
 other_of_many line (a ∷ b ∷ c ∷ d ∷ e ∷ words) many = refl
+other_of_many line _ many = absurd (omega arith)

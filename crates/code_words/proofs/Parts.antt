@@ -1,12 +1,12 @@
 -- The parts of a word between digits that may be a key's, one after the other.
-use Rattle.std.proofs.Common.{◌≡◌, ◌<◌, ◌≤◌, ℕ, zero, suc, ◌+◌, ◌-◌, Bool, true, false}
-use Rattle.std.proofs.Common.{List, [], ◌∷◌, ◌++◌, rules, arith, length, take, drop, cond}
-use Rattle.std.proofs.Common.{option_map, refl, sym, ap, ◌∙◌}
-use Rattle.std.proofs.Common.{length-drop, append_assoc, subst}
+use Rattle.std.proofs.Common.{◌≡◌, ◌<◌, ◌≤◌, ℕ, zero, suc, ◌+◌, ◌-◌, Bool, true, false, List, []}
+use Rattle.std.proofs.Common.{◌∷◌, ◌++◌, rules, arith, length, take, drop, cond, option_map, refl}
+use Rattle.std.proofs.Common.{ap, ◌∙◌, length-drop, append_assoc, subst}
 use Rattle.std.specs.Prelude.{Option, None, Some, codes, nat_le, nat_lt, if◌then◌else◌}
 use Rattle.std.specs.Char.{is_ascii_hexdigit}
 use Rattle.std.specs.List.{onto_first, prefix_len}
 use Rattle.std.proofs.lemmas.List.{take_all}
+use Rattle.std.proofs.Math.Numerals.{one-add}
 use borrow.Author.Tests.{tests}
 use Rattle.code_words.specs.Keys.{hidden_digits, further}
 use Rattle.code_words.specs.Words.{bytes_text, front_text, parts_after, parts_text}
@@ -33,13 +33,8 @@ PartsOf (Some at) parts bytes = parts ≡ take at.0 bytes ∷ parts_after 0 (dro
 one_further : (o : Option (ℕ × ℕ)) (parts : List (List ℕ)) (byte : ℕ) (bytes : List ℕ)
     → PartsOf o parts bytes
     → PartsOf (option_map (further 1) o) (onto_first byte parts) (byte ∷ bytes)
-one_further None parts byte bytes is = ap (onto_first byte) is
-one_further (Some at) parts byte bytes is =
-    let begin : suc at.0 ≡ 1 + at.0 = omega arith in
-    let end : suc at.1 ≡ 1 + at.1 = omega arith in
-    ap (onto_first byte) is
-    ∙ (ap (λ n. take n (byte ∷ bytes) ∷ parts_after 0 (drop at.1 bytes)) begin
-    ∙ ap (λ n. take (1 + at.0) (byte ∷ bytes) ∷ parts_after 0 (drop n (byte ∷ bytes))) end)
+one_further None parts byte bytes is = rw is
+one_further (Some at) parts byte bytes is = rw (is, one-add at.0, one-add at.1)
 
 by_test : (is : Bool) (count after byte : ℕ) (bytes : List ℕ) → (is ≡ true → count ≡ 1 + after)
     → PartsOf (hidden_digits bytes) (parts_after 0 bytes) bytes
@@ -47,9 +42,7 @@ by_test : (is : Bool) (count after byte : ℕ) (bytes : List ℕ) → (is ≡ tr
     (if is then [] ∷ parts_after after bytes else onto_first byte (parts_after 0 bytes))
     (byte ∷ bytes)
 by_test true count after byte bytes counts rest =
-    let same : suc after ≡ count = let is = counts refl in omega arith in
-    ap (λ parts. [] ∷ parts) (parts_left after bytes)
-    ∙ ap (λ n. [] ∷ parts_after 0 (drop n (byte ∷ bytes))) same
+    rw (parts_left after bytes, counts refl, one-add after)
 by_test false count after byte bytes counts rest =
     one_further (hidden_digits bytes) (parts_after 0 bytes) byte bytes rest
 
@@ -82,7 +75,7 @@ more_text : (room : ℕ) (part : List ℕ) (parts : List (List ℕ)) → 0 < len
     ≡ (if nat_lt room (length part) then front_text room part
     else bytes_text part ++ (codes ".." ++ parts_text (room - length part) parts))
 unfolding parts_text
-more_text room part [] some = absurd (omega (arith, some))
+more_text room part [] some = absurd (omega arith)
 more_text room part (next ∷ parts) some = refl
 
 -- the text of a word of which there is no more than a part
@@ -108,11 +101,7 @@ pub long_text : (room : ℕ) (bytes : List ℕ) (begin end : ℕ)
     → parts_text room (parts_after 0 bytes) ≡ front_text room (take begin bytes)
 long_text room bytes begin end some long =
     let is : nat_lt room (length (take begin bytes)) ≡ true = search (rules, tests) in
-    begun room bytes begin end some
-    ∙ ap (λ test. if test then front_text room (take begin bytes)
-    else bytes_text (take begin bytes)
-    ++ (codes ".." ++ parts_text (room - length (take begin bytes))
-    (parts_after 0 (drop end bytes)))) is
+    rw (begun room bytes begin end some, is)
 
 pub next_text : (room : ℕ) (bytes : List ℕ) (begin end : ℕ)
     → hidden_digits bytes ≡ Some (begin, end) → length (take begin bytes) ≤ room
@@ -122,11 +111,7 @@ pub next_text : (room : ℕ) (bytes : List ℕ) (begin end : ℕ)
     (parts_after 0 (drop end bytes)))
 next_text room bytes begin end some short =
     let is : nat_lt room (length (take begin bytes)) ≡ false = search (rules, tests) in
-    begun room bytes begin end some
-    ∙ ap (λ test. if test then front_text room (take begin bytes)
-    else bytes_text (take begin bytes)
-    ++ (codes ".." ++ parts_text (room - length (take begin bytes))
-    (parts_after 0 (drop end bytes)))) is
+    rw (begun room bytes begin end some, is)
 
 -- the bytes from a place on are all that stand there
 pub whole_rest : (begin : ℕ) (bytes : List ℕ)
@@ -140,7 +125,4 @@ whole_rest begin bytes =
 pub appended : (old mid new part dots rest all : List ℕ) → mid ≡ old ++ part → new ≡ mid ++ dots
     → all ≡ part ++ (dots ++ rest) → new ++ rest ≡ old ++ all
 appended old mid new part dots rest all a b c =
-    ap (λ text. text ++ rest) b
-    ∙ (ap (λ text. (text ++ dots) ++ rest) a
-    ∙ (append_assoc (old ++ part) dots rest
-    ∙ (append_assoc old part (dots ++ rest) ∙ ap (λ text. old ++ text) (sym c))))
+    rw (b, a, c) (simp append_assoc)

@@ -1,13 +1,12 @@
 -- Texts that were appended one after another.
-use Rattle.std.proofs.Common.{◌≡◌, ℕ, false, List, [], ◌++◌, drop, map, Bor}
-use Rattle.std.proofs.Common.{sym, ap, ◌∙◌, append_assoc}
-use Rattle.std.specs.Prelude.{Option, Some, None, is_some, unwrap_or, if◌then◌else◌}
-use Rattle.std.specs.Prelude.{Result, Ok, Err, is_ok, OnOk}
+use Rattle.std.proofs.Common.{◌≡◌, ℕ, false, List, [], ◌++◌, drop, map, Bor, sym, append_assoc}
+use Rattle.std.specs.Prelude.{Option, Some, None, is_some, unwrap_or, if◌then◌else◌, Result, Ok}
+use Rattle.std.specs.Prelude.{Err, is_ok, OnOk}
 use Rattle.std.proofs.lemmas.Bool.{true≢false}
 use Rattle.std.proofs.lemmas.List.{drop-map}
 
 pub two : (old mid new a b : List ℕ) → mid ≡ old ++ a → new ≡ mid ++ b → new ≡ old ++ (a ++ b)
-two old mid new a b p q = q ∙ (ap (λ text. text ++ b) p ∙ append_assoc old a b)
+two old mid new a b p q = rw (q, p, append_assoc)
 
 -- where no fault was appended, what is said in its place was
 pub of_no_fault : (old mid new said : List ℕ) (fault : Option (List ℕ)) → is_some fault ≡ false
@@ -19,7 +18,7 @@ of_no_fault old mid new said (Some x) is p q = absurd (true≢false is)
 pub words_left : (place : ℕ) (words left : List (Bor (List ℕ))) → left ≡ drop place words
     → map (λ word. word.now) left ≡ drop place (map (λ word. word.now) words)
 words_left place words left is =
-    ap (map (λ word. word.now)) is ∙ sym (drop-map (λ word. word.now) place words)
+    rw is (sym (drop-map (λ word. word.now) place words))
 
 -- what was appended if all was
 pub on_ok_pushed : {X E : Type 0} (result : Result X E) (old new a : List ℕ)

@@ -1,5 +1,5 @@
 -- What a write of no byte does to known bytes.
-use Rattle.std.proofs.Common.{◌≡◌, ℕ, List, ◌++◌, take, Option, Some, None, ap, ◌∙◌}
+use Rattle.std.proofs.Common.{◌≡◌, ℕ, List, take, Option, Some, None}
 use Rattle.std.specs.Io.KnownBytes.{Appends, Keeps}
 use Rattle.std.proofs.lemmas.List.{append-nil}
 
@@ -7,5 +7,4 @@ pub keeps_by_none : (a b : Option (List ℕ)) (bs : List ℕ) (n : ℕ) → n �
     → Keeps a b
 keeps_by_none None b bs n is p = tt
 keeps_by_none (Some x) None bs n is p = absurd p
-keeps_by_none (Some x) (Some y) bs n is p =
-    p ∙ (ap (λ m. x ++ take m bs) is ∙ append-nil x)
+keeps_by_none (Some x) (Some y) bs n is p = rw (p, is) (append-nil x)

@@ -6,7 +6,7 @@ use Rattle.std.specs.Char.{is_ascii_whitespace}
 use Rattle.std.specs.List.{list_any, list_all, find, starts_with, enumerate_from, slice_split}
 use Rattle.std.specs.Str.{bytes_eq, is_utf8}
 use Rattle.std.specs.Str.Parse.{without_leading_plus}
-use Rattle.words.specs.Words.{number_in}
+use Rattle.tokens.specs.Words.{number_in}
 use Rattle.code_words.specs.declared.file_kind.FileKind.{FileKind}
 use Rattle.code_words.specs.declared.file_kind.FileKind.TheVariants.{Empty, Utf16, Marked, Cell}
 use Rattle.code_words.specs.declared.file_kind.FileKind.TheVariants.{Synced, Members, Key, Ledger}

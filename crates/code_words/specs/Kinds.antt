@@ -2,7 +2,7 @@
 use Rattle.std.specs.Prelude.{ℕ, nat_le, nat_lt, Bool, ◌&&◌, List, [], ◌∷◌, ◌++◌, length, codes}
 use Rattle.std.specs.Prelude.{is_some}
 use Rattle.std.specs.Option.{option_map_or}
-use Rattle.words.specs.Words.{bytes_of, number_in, text_of}
+use Rattle.tokens.specs.Words.{bytes_of, number_in, text_of}
 use Rattle.code_words.specs.declared.kind.Kind.{Kind}
 use Rattle.code_words.specs.declared.kind.Kind.TheVariants.{Federation, Count, Weight, Site, Tree}
 use Rattle.code_words.specs.declared.kind.Kind.TheVariants.{Object, Version, Number, Path, Bytes}

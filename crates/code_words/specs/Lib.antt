@@ -1,6 +1,7 @@
 pub mod Names
 pub mod Meanings
 pub mod Codes
+pub mod Failures
 pub mod Rows
 pub mod Lines
 pub mod Tables

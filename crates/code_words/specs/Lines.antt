@@ -57,8 +57,8 @@ skipped reason = find (λ code. ends code reason) skipped_codes
 abbrev pub other : List ℕ → Option (List ℕ)
 other line = find (has_code line) other_codes
 
--- what a site refused: a bag that isn't valid, 40 above the number of `invalid`; a folder that can't
--- be read, 20 above the number of `unread`; and else by a number from 10 on
+-- what a site refused: a bag that isn't valid, 40 above the number of `invalid`; a folder that
+-- can't be read, 20 above the number of `unread`; and else by a number from 10 on
 unfoldable pub refused : ℕ → Option (List ℕ)
 refused number =
     if nat_lt 40 number then row invalid_codes (number - 40)

@@ -16,7 +16,7 @@ use Rattle.std.specs.declared.net.socket_addr.SocketAddr.{SocketAddr}
 use Rattle.std.specs.declared.net.socket_addr.SocketAddr.TheVariants as socket
 use Rattle.addresses.specs.Addresses.{port_of}
 use Rattle.addresses.specs.Texts.{is_ipv4, is_listable, of_socket, socket_of, text_of}
-use Rattle.words.specs.Words.{number_in}
+use Rattle.tokens.specs.Words.{number_in}
 use Rattle.code_words.specs.FileKinds.{begins}
 use Rattle.code_words.specs.Words.{found_text}
 

@@ -3,7 +3,7 @@ use Rattle.std.specs.Prelude.{ℕ, ◌-◌, ◌==◌, Bool, not, ◌||◌, List,
 use Rattle.std.specs.Prelude.{slice_get, unwrap_or}
 use Rattle.std.specs.List.{list_any}
 use Rattle.std.specs.Str.Lines.{lines}
-use Rattle.words.specs.Words.{words_of}
+use Rattle.tokens.specs.Words.{words_of}
 use Rattle.code_words.specs.FileKinds.{begins}
 
 -- the line of this number, counted from 1; empty where there is none

@@ -7,7 +7,7 @@ use Rattle.std.specs.Fmt.{decimal}
 use Rattle.std.specs.List.{find, list_any}
 use Rattle.std.specs.Option.{option_map_or}
 use Rattle.std.specs.Str.{bytes_eq, is_utf8}
-use Rattle.words.specs.Words.{words_of}
+use Rattle.tokens.specs.Words.{words_of}
 use Rattle.code_words.specs.declared.file_kind.FileKind.{FileKind}
 use Rattle.code_words.specs.declared.file_kind.FileKind.TheVariants as file
 use Rattle.code_words.specs.declared.form.Form.{Form}

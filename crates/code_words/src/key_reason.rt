@@ -5,7 +5,7 @@ use crate::file_reason::bytes_at;
 use crate::key_line::has_key_line;
 use crate::text_lines::line_at;
 use std::alloc::{AllocError, Global};
-use words::{first_line, split_words};
+use tokens::{first_line, split_words};
 
 /// What is wrong with the line of this number, counted from 1, the first at fault in the key file
 /// of this path, if more can be said than what such a line has to be; after a semicolon. Nothing of

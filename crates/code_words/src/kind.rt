@@ -1,13 +1,13 @@
 //! The kinds of words that commands take.
 
 ghost use Rattle.std.specs.Prelude.{◌≡◌, IfOk, is_some};
-ghost use Rattle.words.specs.Words.{bytes_of};
+ghost use Rattle.tokens.specs.Words.{bytes_of};
 ghost use Rattle.code_words.specs.declared.kind.Kind.TheVariants.{Weight};
 ghost use Rattle.code_words.specs.Kinds.{name_of, range_of, takes, text_length};
 
 use hex::FromHexError;
 use std::alloc::{AllocError, Global};
-use words::{parse_number, parse_text};
+use tokens::{parse_number, parse_text};
 
 /// The longest name of an object, in bytes.
 const LONGEST_OBJECT: usize = 200;
@@ -108,7 +108,7 @@ fn text_length(alloc: Global, word: &[u8]) -> Result<usize, AllocError>
     }
 }
 
-#[tactic(auto, unfolding(words::specs::Words::bytes_of))]
+#[tactic(auto, unfolding(tokens::specs::Words::bytes_of))]
 fn is_hex(alloc: Global, word: &[u8]) -> Result<bool, AllocError>
     ensures { IfOk result (λ is. is ≡ is_some (bytes_of word.now)) }
 {

@@ -13,7 +13,7 @@ use crate::file_kind::FileKind;
 use crate::form::{FORMS, Form};
 use std::alloc::AllocError;
 use std::str;
-use words::parse_number;
+use tokens::parse_number;
 
 /// What kind of text begins with this line.
 pub(crate) fn kind_of_line(line: &str) -> Option<FileKind>

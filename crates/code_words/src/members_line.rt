@@ -13,7 +13,7 @@ use crate::word_text::{push_bytes, push_found};
 use members_file::Place;
 use std::alloc::{AllocError, Global};
 use std::str;
-use words::{parse_number, split_words};
+use tokens::{parse_number, split_words};
 
 /// Appends what is wrong with the line of this number, counted from 1, the first at fault in a text
 /// that is no members file: `line 3: "b:5002" isn't a port, 1 to 65535 ..`.

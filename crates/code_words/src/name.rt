@@ -14,7 +14,8 @@ struct Span {
     last: u32,
 }
 
-// Blanks other than the space, and what Unicode has shown as nothing (Default_Ignorable_Code_Point).
+// Blanks other than the space, and what Unicode has shown as nothing
+// (Default_Ignorable_Code_Point).
 const BLANKS: [Span; 19] = [
     Span {
         first: 0xA0,

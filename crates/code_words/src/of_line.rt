@@ -3,7 +3,8 @@
 ghost use Rattle.std.specs.Prelude.{◌≡◌, map, option_map, IfOk};
 ghost use Rattle.std.specs.Option.{option_copied};
 ghost use Rattle.code_words.specs.Rows.{code_of};
-ghost use Rattle.code_words.specs.Lines.{code_of_line, words_of, of_words, of_two, of_three, of_four};
+ghost use Rattle.code_words.specs.Lines.{code_of_line, words_of, of_words, of_two, of_three};
+ghost use Rattle.code_words.specs.Lines.{of_four};
 ghost use Rattle.code_words.specs.Lines.{refused, skipped, other};
 
 use crate::bag_codes::{invalid, unread};
@@ -25,7 +26,8 @@ const BEFORE_INVALID: u8 = 40;
 /// The meaning of a line that `check`, `run`, `site` or `send` prints, if it has a code. For a line
 /// `refused S 10 N`, or a deposit's `refused S N`, it is what is wrong with the bag or the folder.
 pub fn meaning_of_line(alloc: Global, line: &str) -> Result<Option<&'static Meaning>, AllocError>
-    ensures { IfOk result (λ meaning. option_map code_of (option_copied meaning) ≡ code_of_line line.now) }
+    ensures { IfOk result (λ meaning. option_map code_of (option_copied meaning) ≡ code_of_line
+        line.now) }
 {
     let words = words_of(alloc, line)?;
     Ok(of_words(line, words.as_slice()))
@@ -41,7 +43,8 @@ fn words_of(alloc: Global, line: &str) -> Result<Vec<&str>, AllocError>
 // What a line of these words says.
 #[tactic(auto, unfolding(crate::specs::Lines::of_words))]
 fn of_words(line: &str, words: &[&str]) -> Option<&'static Meaning>
-    ensures { option_map code_of (option_copied result) ≡ of_words line.now (map (λ word. word.now) words.now) }
+    ensures { option_map code_of (option_copied result) ≡ of_words line.now
+        (map (λ word. word.now) words.now) }
 {
     match words {
         [] | [_] => other(line),
@@ -78,7 +81,8 @@ fn of_three(line: &str, name: &str, last: &str) -> Option<&'static Meaning>
 
 #[tactic(auto, unfolding(crate::specs::Lines::of_four))]
 fn of_four(line: &str, name: &str, third: &str, last: &str) -> Option<&'static Meaning>
-    ensures { option_map code_of (option_copied result) ≡ of_four line.now name.now third.now last.now }
+    ensures { option_map code_of (option_copied result) ≡ of_four line.now name.now third.now
+        last.now }
 {
     if name == "refused" && third == "10" {
         invalid(number_in(last))

@@ -16,7 +16,7 @@ use crate::word_text::push_found;
 use addresses::Address;
 use std::alloc::AllocError;
 use std::net::{IpAddr, Ipv6Addr, SocketAddr};
-use words::parse_number;
+use tokens::parse_number;
 
 /// Appends why a word is neither a port nor an address that a members file takes: for an address in
 /// another form, which form it takes.

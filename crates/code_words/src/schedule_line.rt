@@ -1,7 +1,7 @@
 //! What is wrong with a line of a schedule.
 
 ghost use Rattle.std.specs.Prelude.{◌≡◌, ◌++◌, ◌+◌, map, OnOk, IfOk, string_bytes};
-ghost use Rattle.words.specs.Words.{words_of};
+ghost use Rattle.tokens.specs.Words.{words_of};
 ghost use Rattle.code_words.specs.ScheduleLines.{line_at, has_command_before};
 ghost use Rattle.code_words.specs.ScheduleWords.{first_text, command_text, list_text, tab_text};
 ghost use Rattle.code_words.specs.ScheduleWords.{names_members, names_site, begins_members};
@@ -12,7 +12,7 @@ use crate::line_kind::push_list_kind;
 use crate::schedule_command::push_command_words;
 use crate::text_lines::{has_command_before, line_after, line_at};
 use std::alloc::{AllocError, Global};
-use words::split_words;
+use tokens::split_words;
 
 /// Appends what is wrong with the line of this number, counted from 1, the first at fault in a text
 /// that is no schedule: `line 4: deliver takes the number of one datagram; found ..`.

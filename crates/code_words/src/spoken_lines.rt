@@ -3,6 +3,7 @@
 ghost use Rattle.std.specs.Prelude.{◌≡◌, [], IfOk};
 ghost use Rattle.std.specs.Io.{WritesAtMost};
 ghost use Rattle.std.specs.Io.KnownBytes.{WriteAppends};
+ghost use Rattle.code_words.specs.Failures.{CountsFailures};
 
 use crate::line_speaker::LineSpeaker;
 use std::alloc::Global;
@@ -14,6 +15,8 @@ use std::str;
 #[derive(Drop)]
 pub struct SpokenLines<W, S> {
     output: W,
+    /// How many writes have failed.
+    failures: u64,
     speech: Speech<S>,
 }
 
@@ -33,6 +36,7 @@ impl<W: Write, S: LineSpeaker> SpokenLines<W, S> {
         let begun = Vec::new(alloc);
         SpokenLines {
             output,
+            failures: 0,
             speech: Speech { speaker, begun },
         }
     }
@@ -41,20 +45,25 @@ impl<W: Write, S: LineSpeaker> SpokenLines<W, S> {
 impl<W: Write, S: LineSpeaker> Write for SpokenLines<W, S> {
     ghost contents = { λ o. W.contents o.output };
 
-    // Of bytes some are written, or it fails.
+    // Of bytes some are written, or it fails. It fails only where the output does.
     #[tactic(auto, using(crate::proofs::Writes::keeps_by_none))]
     fn write(&mut self, buf: &[u8]) -> Result<usize>
         ensures bound { WritesAtMost result buf.now }
         ensures bytes { WriteAppends (W.contents self.old.output) (W.contents self.new.output)
             result buf.now }
         ensures some { IfOk result (λ count. count ≡ 0 → buf.now ≡ []) }
+        ensures failures { CountsFailures self.old.failures self.new.failures result }
     {
-        let count = self.output.write(buf)?;
-        if count == 0 && !buf.is_empty() {
-            return Err(Error::from(ErrorKind::WriteZero));
-        }
-        self.speech.take(&buf[..count]);
-        Ok(count)
+        let failed = match self.output.write(buf) {
+            Ok(0) if !buf.is_empty() => Error::from(ErrorKind::WriteZero),
+            Ok(count) => {
+                self.speech.take(&buf[..count]);
+                return Ok(count);
+            }
+            Err(error) => error,
+        };
+        self.failures = self.failures.saturating_add(1);
+        Err(failed)
     }
 
     fn flush(&mut self) -> Result<()> {

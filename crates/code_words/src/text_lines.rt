@@ -4,7 +4,7 @@ ghost use Rattle.std.specs.Prelude.{◌≡◌, ◌+◌, IfOk};
 ghost use Rattle.code_words.specs.ScheduleLines.{line_at, has_command_before, is_skipped};
 
 use std::alloc::{AllocError, Global};
-use words::{first_line, split_words};
+use tokens::{first_line, split_words};
 
 /// The line of this number, counted from 1; empty where there is none.
 pub(crate) fn line_at(text: &[u8], number: usize) -> &[u8]

@@ -4,8 +4,8 @@ ghost use Rattle.std.specs.Prelude.{◌≡◌, ◌==◌};
 ghost use Rattle.std.specs.List.{list_all, enumerate_from};
 ghost use Rattle.code_words.specs.FileKinds.{is_utf16, has_zeros, is_zero_if_due};
 
-/// Whether these bytes are UTF-16: they begin with its mark, in either order, or every second one is
-/// zero, and not all are.
+/// Whether these bytes are UTF-16: they begin with its mark, in either order, or every second one
+/// is zero, and not all are.
 #[tactic(auto, unfolding(crate::specs::FileKinds::is_utf16))]
 pub(crate) fn is_utf16(bytes: &[u8]) -> bool
     ensures { result ≡ is_utf16 bytes.now }

@@ -3,7 +3,8 @@
 ghost use Rattle.std.specs.Prelude.{◌≡◌, ◌∷◌, ◌++◌, [], map, codes, OnOk, string_bytes};
 ghost use Rattle.std.specs.List.{flat_map, list_any};
 ghost use Rattle.code_words.specs.FileKinds.{is_utf16};
-ghost use Rattle.code_words.specs.Words.{bytes_text, byte_text, front_text, parts_text, parts_after};
+ghost use Rattle.code_words.specs.Words.{bytes_text, byte_text, front_text, parts_text};
+ghost use Rattle.code_words.specs.Words.{parts_after};
 ghost use Rattle.code_words.specs.Words.{word_text, words_text, later_word, key_line_text};
 ghost use Rattle.code_words.specs.Words.{is_cell, other_text, found_text};
 

@@ -9,10 +9,10 @@ use Rattle.std.proofs.Math.ListN.{set}
 use Rattle.std.specs.Prelude.{◌≢◌, IsErrAnd, Vec}
 use Rattle.std.specs.Global.{Global}
 use Rattle.std.specs.declared.alloc.AllocError.{AllocError}
-use Rattle.site_commands.specs.declared.reply.ClientReply.{ClientReply}
-use Rattle.site_commands.specs.Replies.{datagram_to, first_reply}
-use Rattle.site_commands.specs.Exchanges.{Asks, HasAsked, wanted_about, IsAskedAbout}
-use Rattle.site_commands.specs.Recoveries.{recovery_of}
+use Rattle.site_client.specs.declared.reply.ClientReply.{ClientReply}
+use Rattle.site_client.specs.Replies.{datagram_to, first_reply}
+use Rattle.site_client.specs.Exchanges.{Asks, HasAsked, wanted_about, IsAskedAbout}
+use Rattle.site_client.specs.Recoveries.{recovery_of}
 use Rattle.udp_site.specs.Traffic.{Move, Grows}
 use Rattle.udp_site.proofs.Growth.{Grows-trans, Grows-none}
 use Rattle.catch_up.specs.declared.rounds.Target.{Target}

@@ -5,10 +5,10 @@ use Rattle.dgram.specs.declared.answers.QueryAnswer.TheVariants as query
 use Rattle.fed_types.specs.declared.bag_id.BagId.{BagId}
 use Rattle.fed_types.specs.Slots.{SlotName}
 use Rattle.udp_site.specs.Traffic.{Post, Move, Handed}
-use Rattle.site_commands.specs.declared.reply.Wanted.TheVariants as wanted
-use Rattle.site_commands.specs.Replies.{Question, datagram_to, first_reply}
-use Rattle.site_commands.specs.Exchanges.{handed_if}
-use Rattle.site_commands.specs.Recoveries.{recovery_of, recovery_datagram}
+use Rattle.site_client.specs.declared.reply.Wanted.TheVariants as wanted
+use Rattle.site_client.specs.Replies.{Question, datagram_to, first_reply}
+use Rattle.site_client.specs.Exchanges.{handed_if}
+use Rattle.site_client.specs.Recoveries.{recovery_of, recovery_datagram}
 use Rattle.catch_up.specs.declared.rounds.Target.{Target}
 use Rattle.catch_up.specs.Rounds.{question, in_round}
 use Rattle.catch_up.specs.Times.{Beat, Read, Paused, pause_after}

@@ -12,7 +12,7 @@ use Rattle.outcomes.specs.declared.fault.ProgramFault.TheVariants as faults
 use Rattle.outcomes.specs.Outcomes.{no_memory}
 use Rattle.udp_site.specs.Traffic.{Move, Grows}
 use Rattle.udp_site.proofs.Growth.{Grows-trans}
-use Rattle.site_commands.specs.Answers.{IsWritten}
+use Rattle.site_client.specs.Answers.{IsWritten}
 use Rattle.catch_up.specs.declared.rounds.Target.{Target}
 use Rattle.catch_up.specs.Lines.{count_line}
 use Rattle.catch_up.specs.Reports.{status_of, cut_short}
@@ -43,12 +43,14 @@ module _ (to : ℕ) (entries : List Entry) (place : ℕ) (d : Entry) (within : p
     unfolding entry_lines
     its_line = append-nil (entry_line to (get_or entries place d))
 
-    pub one_more_line : (a b c : Option (List ℕ)) → Appends a b (entry_lines to (take place entries))
+    pub one_more_line : (a b c : Option (List ℕ))
+        → Appends a b (entry_lines to (take place entries))
         → Appends b c (entry_line to (get_or entries place d))
         → Appends a c (entry_lines to (take (place + 1) entries))
     one_more_line a b c p q =
         subst (λ (es : List Entry). Appends a c (entry_lines to es)) (sym at_place)
-        (subst (Appends a c) (sym (lines_both to (take place entries) (get_or entries place d ∷ [])))
+        (subst (Appends a c) (sym (lines_both to (take place entries)
+        (get_or entries place d ∷ [])))
         (Appends-trans a b c _ _ p (subst (Appends b c) (sym its_line) q)))
 
     pub line_cut : (a b c : Option (List ℕ)) → Appends a b (entry_lines to (take place entries))
@@ -89,8 +91,23 @@ module _ (aim : Aim) (asked : Target) (deposits : List Deposit) (t u v : Option 
       → AreSentTo aim asked deposits rest reached t u a b o n
       → IsCutBy aim asked window u v b c → AreReported aim asked deposits t v a c o n result
   window_stopped rest window after reached (Ok status) parts long is sent stops = absurd is
-  window_stopped rest window after reached (Err fault) parts long is
-      (windows, sent, entries, all, full, counted, lengths, (moves, beats, grows, beaten, are, said))
+  window_stopped rest window after reached (Err fault) parts long is (
+    windows,
+    sent,
+    entries,
+    all,
+    full,
+    counted,
+    lengths,
+    (
+      moves,
+      beats,
+      grows,
+      beaten,
+      are,
+      said,
+    ),
+  )
       (others, later, goes, waits, cut) =
       subst (λ (f : AskFault). AreReported aim asked deposits t v a c o n (Err f)) (sym is) (
         windows,
@@ -158,8 +175,23 @@ module _ (aim : Aim) (asked : Target) (deposits : List Deposit) (t v : Option (L
       → OnOk result (Appends n q (count_line reached (length deposits)))
       → OnErr result (AppendsPart n q (count_line reached (length deposits)))
       → AreReported aim asked deposits t v a c o q result
-  counted_all rest reached q (Ok given) none
-      (windows, sent, entries, all, full, counted, lengths, (moves, beats, grows, beaten, are, said))
+  counted_all rest reached q (Ok given) none (
+    windows,
+    sent,
+    entries,
+    all,
+    full,
+    counted,
+    lengths,
+    (
+      moves,
+      beats,
+      grows,
+      beaten,
+      are,
+      said,
+    ),
+  )
       status ok err = (
         windows,
         entries,
@@ -173,8 +205,23 @@ module _ (aim : Aim) (asked : Target) (deposits : List Deposit) (t v : Option (L
         Appends-trans o n q (entry_lines asked.to entries) _ said
             (subst (λ (k : ℕ). Appends n q (count_line k (length deposits))) counted ok),
       )
-  counted_all rest reached q (Err fault) none
-      (windows, sent, entries, all, full, counted, lengths, (moves, beats, grows, beaten, are, said))
+  counted_all rest reached q (Err fault) none (
+    windows,
+    sent,
+    entries,
+    all,
+    full,
+    counted,
+    lengths,
+    (
+      moves,
+      beats,
+      grows,
+      beaten,
+      are,
+      said,
+    ),
+  )
       status ok err = (
         windows,
         sent,

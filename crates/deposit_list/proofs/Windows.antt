@@ -185,8 +185,23 @@ module _ (aim : Aim) (asked : Target) (deposits : List Deposit) (t u v : Option 
       → IsWindowAsked aim asked window u v b c (Ok now)
       → AreSentBut aim asked deposits after (reached + reached_in aim now.items) now.items t v a c
       o n
-  one_more_window rest window after reached now some parts long
-      (windows, sent, entries, all, full, counted, lengths, (moves, beats, grows, beaten, are, said))
+  one_more_window rest window after reached now some parts long (
+    windows,
+    sent,
+    entries,
+    all,
+    full,
+    counted,
+    lengths,
+    (
+      moves,
+      beats,
+      grows,
+      beaten,
+      are,
+      said,
+    ),
+  )
       (last, others, goes, waits, its, count) =
       let size = some_size aim in
       let first = some_first rest some in

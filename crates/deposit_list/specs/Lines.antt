@@ -3,8 +3,8 @@ use Rattle.std.specs.Prelude.{ℕ, List, [], ◌∷◌, ◌++◌, codes}
 use Rattle.std.specs.Fmt.{decimal}
 use Rattle.fed_types.specs.Slots.{SlotName}
 use Rattle.lines.specs.declared.notice.Notice.TheVariants as notices
-use Rattle.site_commands.specs.Answers.{said}
-use Rattle.words.specs.Written.{slot_text}
+use Rattle.site_client.specs.Answers.{said}
+use Rattle.tokens.specs.Written.{slot_text}
 use Rattle.catch_up.specs.Lines.{known_line, open_line}
 use Rattle.deposit_list.specs.declared.entry.Entry.{Entry}
 use Rattle.deposit_list.specs.declared.standing.Standing.{Standing}

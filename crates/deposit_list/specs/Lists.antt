@@ -8,8 +8,8 @@ use Rattle.std.specs.Str.{bytes_eq}
 use Rattle.std.specs.Str.Lines.{lines}
 use Rattle.dgram.specs.Numbers.{LONGEST_PATH}
 use Rattle.fed_types.specs.Slots.{SlotName, same_slot}
-use Rattle.words.specs.Slots.{slot_of}
-use Rattle.words.specs.Words.{◌>>=◌, words_of, text_of}
+use Rattle.tokens.specs.Slots.{slot_of}
+use Rattle.tokens.specs.Words.{◌>>=◌, words_of, text_of}
 use Rattle.deposit_list.specs.declared.deposit.Deposit.{Deposit}
 use Rattle.deposit_list.specs.declared.deposit_lines.ListFault.{ListFault}
 use Rattle.deposit_list.specs.declared.deposit_lines.ListFault.TheVariants.{Line, Memory}

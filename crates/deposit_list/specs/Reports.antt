@@ -4,7 +4,7 @@ use Rattle.std.specs.List.{flat_map}
 use Rattle.outcomes.specs.declared.fault.ProgramFault.{ProgramFault}
 use Rattle.outcomes.specs.Outcomes.{Outcome}
 use Rattle.udp_site.specs.Traffic.{Move, Grows}
-use Rattle.site_commands.specs.Answers.{IsWritten}
+use Rattle.site_client.specs.Answers.{IsWritten}
 use Rattle.catch_up.specs.declared.rounds.Target.{Target}
 use Rattle.catch_up.specs.Lines.{count_line}
 use Rattle.catch_up.specs.Reports.{status_of, cut_short}

@@ -6,8 +6,8 @@ use Rattle.dgram.specs.declared.answers.DepositAnswer.{DepositAnswer}
 use Rattle.dgram.specs.declared.answers.DepositAnswer.TheVariants as deposit
 use Rattle.dgram.specs.declared.answers.QueryAnswer.{QueryAnswer}
 use Rattle.dgram.specs.declared.answers.QueryAnswer.TheVariants as query
-use Rattle.site_commands.specs.declared.reply.ClientReply.{ClientReply}
-use Rattle.site_commands.specs.declared.reply.ClientReply.TheVariants.{ToDeposit, ToQuery}
+use Rattle.site_client.specs.declared.reply.ClientReply.{ClientReply}
+use Rattle.site_client.specs.declared.reply.ClientReply.TheVariants.{ToDeposit, ToQuery}
 use Rattle.deposit_list.specs.declared.aim.Aim.{Aim}
 use Rattle.deposit_list.specs.declared.aim.Aim.TheVariants as aims
 use Rattle.deposit_list.specs.declared.standing.Standing.{Standing}

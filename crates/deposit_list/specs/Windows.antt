@@ -3,9 +3,9 @@ use Rattle.std.specs.Prelude.{◌≡◌, ◌⊎◌, ◌≤◌, ℕ, zero, suc, �
 use Rattle.std.specs.Prelude.{List, [], ◌∷◌, ◌++◌, length, map, Option, Some, None}
 use Rattle.std.specs.List.{list_all}
 use Rattle.udp_site.specs.Traffic.{Move}
-use Rattle.site_commands.specs.Replies.{datagram_to, first_reply}
-use Rattle.site_commands.specs.Exchanges.{Asks, HasAsked, wanted_about}
-use Rattle.site_commands.specs.Recoveries.{recovery_of}
+use Rattle.site_client.specs.Replies.{datagram_to, first_reply}
+use Rattle.site_client.specs.Exchanges.{Asks, HasAsked, wanted_about}
+use Rattle.site_client.specs.Recoveries.{recovery_of}
 use Rattle.catch_up.specs.declared.rounds.Target.{Target}
 use Rattle.catch_up.specs.Rounds.{question, in_round}
 use Rattle.catch_up.specs.Times.{Beat, Read, Paused, is_over, pause_after, ReadsOver, most_rounds}

@@ -12,7 +12,7 @@ use code_words::{Asked, AskedSpeaker, SpokenLines};
 use counted_writes::CountedWriter;
 use file_words::say_no_line;
 use outcomes::{ProgramFault, ReadFault, read_all, write_output};
-use site_commands::{Stop, write_stop};
+use site_client::{Stop, write_stop};
 use std::fs::File;
 use std::io::{self, ErrorKind, IsTerminal, Printer, Write};
 

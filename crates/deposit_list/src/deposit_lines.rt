@@ -11,7 +11,7 @@ use crate::deposit::Deposit;
 use crate::listed_deposits::ListedDeposits;
 use dgram::FolderPath;
 use std::alloc::{AllocError, Global};
-use words::{first_line, parse_slot, parse_text, split_words};
+use tokens::{first_line, parse_slot, parse_text, split_words};
 
 /// Why a list can't be read.
 #[derive(Clone, Copy, Debug)]

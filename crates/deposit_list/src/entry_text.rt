@@ -2,7 +2,7 @@
 
 ghost use Rattle.std.specs.Prelude.{◌≡◌, IfOk, string_bytes};
 ghost use Rattle.lines.specs.declared.notice.Notice.TheVariants.{Registered};
-ghost use Rattle.site_commands.specs.Answers.{said};
+ghost use Rattle.site_client.specs.Answers.{said};
 ghost use Rattle.deposit_list.specs.Lines.{refused_line, entry_line};
 
 use crate::entry::Entry;
@@ -11,7 +11,7 @@ use catch_up::{known_line, open_line};
 use fed_types::{BagId, SiteNo, Slot};
 use lines::{Notice, Options, line_by_identity, push_line};
 use std::alloc::{AllocError, Global};
-use words::push_slot;
+use tokens::push_slot;
 
 /// The line of a deposit: `registered N OBJ V HEX`, `refused N CODE OBJ V`, `known OBJ V HEX`,
 /// `other OBJ V HEX HEX`, or `open OBJ V` where nothing is known of it.

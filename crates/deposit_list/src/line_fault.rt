@@ -5,7 +5,7 @@ use dgram::LONGEST_PATH;
 use fed_types::LONGEST_OBJECT;
 use std::alloc::{AllocError, Global};
 use std::str;
-use words::{first_line, parse_number, parse_text, split_words};
+use tokens::{first_line, parse_number, parse_text, split_words};
 
 /// How many bytes a word has at most that is shown.
 const LONGEST_SHOWN: usize = 100;

@@ -1,7 +1,7 @@
 //! Which folder a list has for a version.
 
 use std::alloc::{AllocError, Global};
-use words::{first_line, parse_number, parse_text, split_words};
+use tokens::{first_line, parse_number, parse_text, split_words};
 
 /// The path that a list of deposits has for this version, whose words are as they are printed; none
 /// if it has no line of it.

@@ -12,7 +12,7 @@ use crate::entry::Entry;
 use crate::standing::Standing;
 use catch_up::{Target, Timer, waits_for_round};
 use dgram::FolderPath;
-use site_commands::{Request, ask_about};
+use site_client::{Request, ask_about};
 use std::alloc::{AllocError, Global};
 use udp_site::Port;
 

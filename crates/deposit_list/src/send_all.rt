@@ -28,9 +28,9 @@ const WINDOW: usize = 32;
 /// Sends these deposits to a site, and writes a line for each, in their order; then of how many of
 /// them has come what was to come. The status is 0 where that is all. If it is that the site
 /// registers them, each is sent once. If it is that the site knows their bags, they are sent in
-/// windows of 32, and the site is asked for those of a window until it knows all of them, or so many
-/// seconds have passed since the window began. Where memory runs out, the line `memory` follows what
-/// was written, and the status is 1.
+/// windows of 32, and the site is asked for those of a window until it knows all of them, or so
+/// many seconds have passed since the window began. Where memory runs out, the line `memory`
+/// follows what was written, and the status is 1.
 pub fn send_all_on<P: Port, T: Timer, V: Watch, W: CountedWrite>(
     alloc: Global,
     timer: &mut T,

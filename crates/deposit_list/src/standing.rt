@@ -8,7 +8,7 @@ use crate::aim::Aim;
 use dgram::{DepositAnswer, QueryAnswer};
 use fed_types::BagId;
 use site::SiteFault;
-use site_commands::ClientReply;
+use site_client::ClientReply;
 
 /// How a deposit stands with a site, by its replies.
 #[derive(Clone, Copy, Debug)]
@@ -27,7 +27,8 @@ pub enum Standing {
 
 impl Standing {
     ghost use Rattle.std.specs.Prelude.{◌≡◌};
-    ghost use Rattle.deposit_list.specs.Standings.{unanswered, where_known, where_pending, by_query};
+    ghost use Rattle.deposit_list.specs.Standings.{unanswered, where_known, where_pending};
+    ghost use Rattle.deposit_list.specs.Standings.{by_query};
     ghost use Rattle.deposit_list.specs.Standings.{after, is_settled, is_registered, is_known};
     ghost use Rattle.deposit_list.specs.Standings.{is_reached};
 

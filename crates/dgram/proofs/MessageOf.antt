@@ -1,16 +1,13 @@
 -- The message of bytes is the one whose datagram they are.
-use Rattle.std.proofs.Common.{◌≡◌, ℕ, ◌≤◌, ◌<◌, ◌↔◌, Bool, true, false, cond, List, ◌++◌, length}
-use Rattle.std.proofs.Common.{get_or}
-use Rattle.std.proofs.Common.{take, drop, Option, None, Some, Result, refl, sym, ap, subst}
-use Rattle.std.proofs.Common.{◌∙◌, arith}
-use Rattle.std.proofs.Common.{length-append}
+use Rattle.std.proofs.Common.{◌≡◌, ℕ, ◌≤◌, ◌<◌, ◌↔◌, List, ◌++◌, length, get_or, take, Option, None}
+use Rattle.std.proofs.Common.{Some, Result, refl, ap, subst, arith, length-append}
 use Rattle.std.specs.Str.{bytes_eq}
 use Rattle.std.proofs.lemmas.Slice.Eq.{bytes_eq-Decides}
 use Rattle.std.proofs.lemmas.List.{take-append-drop, length-take}
 use Rattle.fields.specs.declared.fault.FieldFault.{FieldFault}
 use Rattle.fields.specs.declared.fault.FieldFault.TheVariants as field_faults
 use Rattle.fields.specs.Checksums.{checksum}
-use Rattle.fields.proofs.Bytes.{IsBytes, not_some}
+use Rattle.fields.proofs.Bytes.{IsBytes, in_test}
 use Rattle.dgram.specs.Numbers.{FRONT}
 use Rattle.dgram.specs.declared.fault.DgramFault.{DgramFault}
 use Rattle.dgram.specs.declared.message.Message.{Message}
@@ -25,11 +22,8 @@ pub message_of-again : (federation : ℕ) (m : Message) → IsMessage m
     → message_of federation (datagram_of federation m) ≡ Some m
 unfolding message_of
 message_of-again federation m h =
-    let bytes : List ℕ = datagram_of federation m in
-    let front : List ℕ = front_bytes federation (get_or bytes 3 0) in
-    let same : bytes_eq (take 12 bytes) front ≡ true =
-    (bytes_eq-Decides (take 12 bytes) front).1 refl in
-    rw same (datagram_read federation m h)
+    let front = take 12 (datagram_of federation m) in
+    rw ((bytes_eq-Decides front front).1 refl) (datagram_read federation m h)
 
 -- what begins with a front is long enough, and ours
 long_by : (federation kind : ℕ) (bytes : List ℕ) → take 12 bytes ≡ front_bytes federation kind
@@ -39,31 +33,25 @@ long_by federation kind bytes e = omega (arith, ap length e, length-take 12 byte
 ours_by : (federation kind : ℕ) (bytes : List ℕ) → take 12 bytes ≡ front_bytes federation kind
     → IsOurs federation bytes
 ours_by federation kind bytes e =
-    subst (IsOurs federation) (sym (sym (take-append-drop 12 bytes)
-    ∙ ap (λ (b : List ℕ). b ++ drop 12 bytes) e)) (refl, refl)
+    subst (IsOurs federation) (rw e at (take-append-drop 12 bytes)) (refl, refl)
 
 -- bytes that have a message are its datagram
 pub message_of-found : (federation : ℕ) (bytes : List ℕ) (m : Message) → IsBytes bytes
     → message_of federation bytes ≡ Some m → IsDatagramOf federation bytes m
 unfolding message_of
 message_of-found federation bytes m fits e =
-    go (bytes_eq (take 12 bytes) (front_bytes federation (get_or bytes 3 0))) refl e
-  where
-    go : (t : Bool) → bytes_eq (take 12 bytes) (front_bytes federation (get_or bytes 3 0)) ≡ t
-        → cond t (datagram_at bytes) None ≡ Some m
-        → IsDatagramOf federation bytes m
-    go true f g =
-        let front : take 12 bytes ≡ front_bytes federation (get_or bytes 3 0) =
-        (bytes_eq-Decides (take 12 bytes) (front_bytes federation (get_or bytes 3 0))).0 f in
-        is_found federation bytes m fits (long_by federation (get_or bytes 3 0) bytes front)
-        (ours_by federation (get_or bytes 3 0) bytes front) g
-    go false f g = absurd (cc g)
+    let kind = get_or bytes 3 0 in
+    let front = front_bytes federation kind in
+    let t = in_test (bytes_eq (take 12 bytes) front) (datagram_at bytes) m e in
+    let same = (bytes_eq-Decides (take 12 bytes) front).0 t.0 in
+    is_found federation bytes m fits (long_by federation kind bytes same)
+    (ours_by federation kind bytes same) t.1
 
 pub message_of-is : (federation : ℕ) (bytes : List ℕ) → IsBytes bytes → (m : Message)
     → IsDatagramOf federation bytes m ↔ (message_of federation bytes ≡ Some m)
 message_of-is federation bytes fits m = (
-  λ d. ap (message_of federation) d.1 ∙ message_of-again federation m d.0,
-  λ e. message_of-found federation bytes m fits e,
+  λ d. rw d.1 (message_of-again federation m d.0),
+  message_of-found federation bytes m fits,
 )
 
 -- bytes that are no datagram have no message
@@ -75,45 +63,21 @@ no_message federation bytes fits none = go (message_of federation bytes) refl
     go None e = refl
     go (Some m) e = absurd (none m (message_of-found federation bytes m fits e))
 
-short_message : (federation : ℕ) (bytes : List ℕ) (m : Message) → length bytes < FRONT
+-- bytes that are too short are none
+pub short_message : (federation : ℕ) (bytes : List ℕ) → length bytes < FRONT → (m : Message)
     → IsDatagramOf federation bytes m → ⊥
-short_message federation bytes m short d =
-    let front : List ℕ = front_bytes federation (kind_of m.body) in
-    let rest : List ℕ = rest_of m in
-    let e : length bytes ≡ length ((front ++ rest) ++ checksum (front ++ rest)) =
-    ap (λ (xs : List ℕ). length xs) d.1 in
-    omega (
-      arith,
-      short,
-      e,
-      length-append front rest,
-      length-append (front ++ rest) (checksum (front ++ rest)),
-    )
-
--- bytes that are too short have no message
-pub short_none : (federation : ℕ) (bytes : List ℕ) → IsBytes bytes → length bytes < FRONT
-    → message_of federation bytes ≡ None
-short_none federation bytes fits short =
-    no_message federation bytes fits (λ m d. short_message federation bytes m short d)
-
-ours_of : (federation : ℕ) (bytes : List ℕ) (m : Message) → IsDatagramOf federation bytes m
-    → IsOurs federation bytes
-ours_of federation bytes m d = subst (IsOurs federation) (sym d.1) (refl, refl)
-
--- nor have another layout's or federation's
-pub others_none : (federation : ℕ) (bytes : List ℕ) → IsBytes bytes
-    → (IsOurs federation bytes → ⊥) → message_of federation bytes ≡ None
-others_none federation bytes fits others =
-    no_message federation bytes fits (λ m d. others (ours_of federation bytes m d))
+short_message federation bytes short m d =
+    let front = front_bytes federation (kind_of m.body) in
+    let rest = rest_of m in
+    let all = length-append (front ++ rest) (checksum (front ++ rest)) in
+    omega (arith, ap length d.1, length-append front rest)
 
 -- where reading ended in a fault of a field
 pub err_message : (federation : ℕ) (bytes : List ℕ) (f : FieldFault) (r : Result Message DgramFault)
     → Faulted federation bytes f r → Decodes r (message_of federation bytes)
 err_message federation bytes field_faults.Malformed r h =
-    let none = no_message federation bytes h.fits
-    (λ m d. not_some (datagram_at bytes) m h.gives (is_read federation bytes m d)) in
-    rw h.answer none
+    rw h.answer
+    (no_message federation bytes h.fits (λ m d. cc (h.gives, is_read federation bytes m d)))
 err_message federation bytes field_faults.Memory r h =
     let found = memory_found federation bytes r h in
-    let some = (message_of-is federation bytes h.fits found.0).0 found.1 in
-    rw (h.answer, some) refl
+    rw (h.answer, (message_of-is federation bytes h.fits found.0).0 found.1)

@@ -1,7 +1,7 @@
 -- A datagram is decoded as it is encoded.
-use Rattle.std.proofs.Common.{◌≡◌, ℕ, ◌≤◌, inl, inr, eqb, ◌↔◌, List, [], ◌∷◌, ◌++◌, length}
-use Rattle.std.proofs.Common.{get_or, take, drop, Option, Some, None, Result, Ok, Err, refl, sym}
-use Rattle.std.proofs.Common.{ap, subst, ◌∙◌, arith, false, ltb, length-append}
+use Rattle.std.proofs.Common.{◌≡◌, ℕ, ◌≤◌, inl, inr, eqb, ◌↔◌, List, [], ◌∷◌, ◌++◌, length, get_or}
+use Rattle.std.proofs.Common.{drop, Option, Some, None, Result, Ok, Err, refl, sym, ap, subst, ◌∙◌}
+use Rattle.std.proofs.Common.{arith, false, ltb, length-append}
 use Rattle.std.specs.Prelude.{IsErrOf, IsSome}
 use Rattle.std.specs.Result.{IsErrAnd}
 use Rattle.std.specs.Int.{w64, to_be_bytes}
@@ -15,9 +15,9 @@ use Rattle.fields.specs.Decoders.{◌>>=◌, Fails, byte_at, slot_at}
 use Rattle.fields.specs.Checksums.{checksum, with_checksum, without_checksum}
 use Rattle.fields.proofs.Checksums.{without_again, without_taken}
 use Rattle.fields.proofs.Bytes.{IsBytes, IsBytes-rest, IsBytes-prefix, past_test, bind_some}
-use Rattle.fields.proofs.Bytes.{some_is, in_test, not_some}
+use Rattle.fields.proofs.Bytes.{in_test}
 use Rattle.fields.proofs.Fields.{byte_read, slot_read}
-use Rattle.dgram.specs.Numbers.{MAGIC, LAYOUT, FRONT}
+use Rattle.dgram.specs.Numbers.{FRONT}
 use Rattle.dgram.specs.declared.fault.DgramFault.{DgramFault}
 use Rattle.dgram.specs.declared.fault.DgramFault.TheVariants as faults
 use Rattle.fed_types.specs.Faults.{IsOrFault}
@@ -60,44 +60,30 @@ message_taken code bytes m fits e =
     let l = bind_some (last_body_at code f.0.0 s.0.1) (λ body. whole s.0.0 body) m s.2 in
     let b = bind_some (body_at code f.0.0 s.0.1) ended l.0 l.1 in
     let g = in_test (eqb (length b.0.1) 0) (Some b.0.0) l.0 b.2 in
-    let read : Message = record { slot = s.0.0; body = l.0 } in
     let made : Message = record { slot = s.0.0; body = b.0.0 } in
-    let P : Body → Message = λ y. record { slot = s.0.0; body = y } in
-    let same : made ≡ m = ap P (some_is b.0.0 l.0 g.1) ∙ some_is read m l.2 in
+    let same : made ≡ m = cc (g.1, l.2) in
     let none : b.0.1 ≡ [] = nil_from_length b.0.1 (eqb-true _ _ g.0) in
     let tf = byte_read.taken bytes f.0.0 f.0.1 fits f.1 in
     let ts = slot_read.taken f.0.1 s.0.0 s.0.1 tf.0.rest_fits s.1 in
     let tb = body_taken code f.0.0 s.0.1 b.0.0 b.0.1 ts.0.rest_fits b.1 in
-    let body : List ℕ = body_bytes b.0.0 in
-    let last : s.0.1 ≡ body =
-    tb.0.parts ∙ ap (λ (xs : List ℕ). body ++ xs) none ∙ append-nil body in
-    let middle : f.0.1 ≡ slot_bytes s.0.0 ++ body =
-    ts.0.parts ∙ ap (λ (xs : List ℕ). slot_bytes s.0.0 ++ xs) last in
     let all : bytes ≡ rest_of made =
-    tf.0.parts ∙ ap (λ (xs : List ℕ). f.0.0 ∷ xs) middle
-    ∙ ap (λ (n : ℕ). n ∷ (slot_bytes s.0.0 ++ body)) tb.2 in
+    cc (tf.0.parts, ts.0.parts, tb.0.parts, none, append-nil (body_bytes b.0.0), tb.2) in
     subst (IsTaken code bytes) same (tb.1, all, (ts.1, tb.3))
 
 pub message_again : (m : Message) → IsMessage m → message_at (kind_of m.body) (rest_of m) ≡ Some m
 unfolding message_at
 message_again m h =
-    let read = body_at (kind_of m.body) (from_byte (body_from m.body)) in
-    let b : read (body_bytes m.body) ≡ Some (m.body, []) =
-    ap read (sym (append-nil (body_bytes m.body))) ∙ body_again m.body [] h.1 in
-    rw (slot_read.again m.slot (body_bytes m.body) h.0, b) refl
+    let b = rw (append-nil (body_bytes m.body)) at (body_again m.body [] h.1) in
+    rw (slot_read.again m.slot (body_bytes m.body) h.0, b)
 
 -- the bytes up to the sender's
 pub front_parts : (federation : ℕ) (bytes : List ℕ) → FRONT ≤ length bytes → IsOurs federation bytes
     → bytes ≡ front_bytes federation (get_or bytes 3 0) ++ drop 12 bytes
-front_parts federation [] long ours = absurd (omega (arith, long))
-front_parts federation (a ∷ []) long ours = absurd (omega (arith, long))
-front_parts federation (a ∷ b ∷ []) long ours = absurd (omega (arith, long))
-front_parts federation (a ∷ b ∷ c ∷ []) long ours = absurd (omega (arith, long))
 front_parts federation (a ∷ b ∷ c ∷ k ∷ rest) long ours =
     let after : rest ≡ to_be_bytes w64 federation ++ drop 8 rest =
     sym (take-append-drop 8 rest) ∙ ap (λ (xs : List ℕ). xs ++ drop 8 rest) ours.1 in
-    ap (λ (xs : List ℕ). xs ++ (k ∷ rest)) ours.0
-    ∙ ap (λ (xs : List ℕ). MAGIC ++ (LAYOUT ∷ (k ∷ xs))) after
+    cc (ours.0, after)
+front_parts federation _ long ours = absurd (omega arith)
 
 -- the bytes before the checksum, and the message that was read of them
 whole_found : (federation : ℕ) (bytes : List ℕ) (m : Message) → IsBytes bytes
@@ -106,25 +92,18 @@ whole_found : (federation : ℕ) (bytes : List ℕ) (m : Message) → IsBytes by
     → IsMessage m × (bytes ≡ message_bytes federation m)
 whole_found federation bytes m fits long ours given =
     let parts = front_parts federation bytes long ours in
-    let front = front_bytes federation (get_or bytes 3 0) in
-    let back : IsBytes (drop 12 bytes) =
-    IsBytes-rest front (drop 12 bytes) (subst IsBytes parts fits) in
+    let back = IsBytes-rest (front_bytes federation (get_or bytes 3 0)) (drop 12 bytes)
+    (subst IsBytes parts fits) in
     let t = message_taken (get_or bytes 3 0) (drop 12 bytes) m back given in
-    let kind = kind_of m.body in
-    let e : bytes ≡ message_bytes federation m =
-    parts ∙ ap (λ (k : ℕ). front_bytes federation k ++ drop 12 bytes) t.0
-    ∙ ap (λ (xs : List ℕ). front_bytes federation kind ++ xs) t.1 in
-    (t.2, e)
+    (t.2, cc (parts, t.0, t.1))
 
 -- where bytes are ours, a long enough prefix of them is
 prefix_is_ours : (federation : ℕ) (bytes more : List ℕ) → FRONT ≤ length bytes
     → IsOurs federation (bytes ++ more) → IsOurs federation bytes
 prefix_is_ours federation bytes more long ours =
-    let eight : take 8 (drop 4 (bytes ++ more)) ≡ take 8 (drop 4 bytes) =
-    ap (take 8) (drop-append-le 4 bytes more (omega (arith, long)))
-    ∙ take-append-le 8 (drop 4 bytes) more (omega (arith, long, length-drop 4 bytes)) in (
-      sym (take-append-le 3 bytes more (omega (arith, long))) ∙ ours.0,
-      sym eight ∙ ours.1,
+    let after = rw (drop-append-le 4 bytes more (omega arith)) at ours.1 in (
+      rw (take-append-le 3 bytes more (omega arith)) at ours.0,
+      rw (take-append-le 8 (drop 4 bytes) more (omega (arith, length-drop 4 bytes))) at after,
     )
 
 pub is_found : (federation : ℕ) (bytes : List ℕ) (m : Message) → IsBytes bytes
@@ -134,15 +113,14 @@ unfolding datagram_at
 is_found federation bytes m fits long ours given =
     let f = bind_some (without_checksum bytes) whole_at m given in
     let front = f.0 in
-    let parts : bytes ≡ with_checksum front = without_taken front bytes f.1 in
-    let read = message_at (get_or front 3 0) (drop 12 front) in
-    let t = past_test (ltb (length front) 12) read m f.2 in
-    let enough : FRONT ≤ length front = ltb-false (length front) 12 t.0 in
-    let bytes' : IsBytes front = IsBytes-prefix front (checksum front) (subst IsBytes parts fits) in
-    let ours' : IsOurs federation front =
-    prefix_is_ours federation front (checksum front) enough
+    let parts = without_taken front bytes f.1 in
+    let t = past_test (ltb (length front) 12) (message_at (get_or front 3 0) (drop 12 front)) m f.2
+    in
+    let enough = ltb-false (length front) 12 t.0 in
+    let fits' = IsBytes-prefix front (checksum front) (subst IsBytes parts fits) in
+    let ours' = prefix_is_ours federation front (checksum front) enough
     (subst (IsOurs federation) parts ours) in
-    let found = whole_found federation front m bytes' enough ours' t.1 in
+    let found = whole_found federation front m fits' enough ours' t.1 in
     (found.0, parts ∙ ap with_checksum found.1)
 
 -- something was read
@@ -163,14 +141,13 @@ datagram_read federation m h =
 
 pub is_read : (federation : ℕ) (bytes : List ℕ) (m : Message) → IsDatagramOf federation bytes m
     → datagram_at bytes ≡ Some m
-is_read federation bytes m h = ap datagram_at h.1 ∙ datagram_read federation m h.0
+is_read federation bytes m h = rw h.1 (datagram_read federation m h.0)
 
 -- where a message was read
 pub ok_only : (federation : ℕ) (bytes : List ℕ) (x : Message) → datagram_at bytes ≡ Some x
     → (m : Message) → IsDatagramOf federation bytes m → IsOrFault faults.Memory (Ok x) (Ok m)
 ok_only federation bytes x given m h =
-    let P : Message → Result Message DgramFault = λ y. Ok y in
-    inl (ap P (some_is x m (sym given ∙ is_read federation bytes m h)))
+    inl (cc (given, is_read federation bytes m h))
 
 pub ok_malformed : (federation : ℕ) (bytes : List ℕ) (x : Message) → FRONT ≤ length bytes
     → IsDatagramOf federation bytes x
@@ -178,7 +155,7 @@ pub ok_malformed : (federation : ℕ) (bytes : List ℕ) (x : Message) → FRONT
 ok_malformed federation bytes x long found = (
   λ e. absurd (cc e),
   λ bad. elim bad [
-    | inl short ↦ absurd (omega (arith, short, long))
+    | inl short ↦ absurd (omega arith)
     | inr none ↦ absurd (none.1 x found.0 found.1)
   ],
 )
@@ -194,32 +171,16 @@ pub record Faulted (federation : ℕ) (bytes : List ℕ) (f : FieldFault)
   pub memory : f ≡ field_faults.Memory → IsSome (datagram_at bytes)
   pub answer : r ≡ Err (fault_of_field f)
 
-answer_of : (f : FieldFault) (r : Result Message DgramFault)
+pub answer_of : (f : FieldFault) (r : Result Message DgramFault)
     → IsErrAnd r (λ d. d ≡ fault_of_field f) → r ≡ Err (fault_of_field f)
 answer_of f (Ok x) h = absurd h
-answer_of f (Err d) h = let P : DgramFault → Result Message DgramFault = λ y. Err y in ap P h
-
-pub faulted : (federation : ℕ) (bytes : List ℕ) (f : FieldFault) (r : Result Message DgramFault)
-    → IsBytes bytes → FRONT ≤ length bytes → IsOurs federation bytes
-    → Fails f (datagram_at bytes)
-    → (IsErrOf {T = Message} (Err f) field_faults.Memory → IsSome (datagram_at bytes))
-    → IsErrAnd r (λ d. d ≡ fault_of_field f) → Faulted federation bytes f r
-faulted federation bytes f r fits long ours gives memory given =
-    let P : FieldFault → Result Message FieldFault = λ y. Err y in
-    record {
-      fits = fits;
-      long = long;
-      ours = ours;
-      gives = gives;
-      memory = λ e. memory (ap P e);
-      answer = answer_of f r given;
-    }
+answer_of f (Err d) h = rw h
 
 pub err_only : (federation : ℕ) (bytes : List ℕ) (f : FieldFault) (r : Result Message DgramFault)
     → Faulted federation bytes f r → (m : Message) → IsDatagramOf federation bytes m
     → IsOrFault faults.Memory r (Ok m)
 err_only federation bytes field_faults.Malformed r h m d =
-    absurd (not_some (datagram_at bytes) m h.gives (is_read federation bytes m d))
+    absurd (cc (h.gives, is_read federation bytes m d))
 err_only federation bytes field_faults.Memory r h m d = inr h.answer
 
 -- where memory ran out, there is a message
@@ -231,26 +192,21 @@ memory_found federation bytes r h =
 
 pub err_memory : (federation : ℕ) (bytes : List ℕ) (f : FieldFault) (r : Result Message DgramFault)
     → Faulted federation bytes f r → IsErrOf r faults.Memory → IsDatagram federation bytes
-err_memory federation bytes field_faults.Malformed r h e = let given = h.answer in absurd cc
+err_memory federation bytes field_faults.Malformed r h e = absurd (cc h.answer)
 err_memory federation bytes field_faults.Memory r h e = memory_found federation bytes r h
 
 pub err_malformed : (federation : ℕ) (bytes : List ℕ) (f : FieldFault)
     (r : Result Message DgramFault) → Faulted federation bytes f r
     → IsErrOf r faults.Malformed ↔ IsMalformed federation bytes
 err_malformed federation bytes field_faults.Malformed r h = (
-  λ e. inr (
-    h.ours,
-    λ m is e'.
-        not_some (datagram_at bytes) m h.gives (is_read federation bytes m (is, e')),
-  ),
+  λ e. inr (h.ours, λ m is same. cc (h.gives, is_read federation bytes m (is, same))),
   λ bad. h.answer,
 )
 err_malformed federation bytes field_faults.Memory r h =
-    let found = memory_found federation bytes r h in
-    let given = h.answer in (
-      λ e. absurd cc,
+    let found = memory_found federation bytes r h in (
+      λ e. absurd (cc h.answer),
       λ bad. elim bad [
-        | inl short ↦ let long = h.long in absurd (omega (arith, short, long))
+        | inl short ↦ absurd (omega (arith, h.long))
         | inr none ↦ absurd (none.1 found.0 found.1.0 found.1.1)
       ],
     )
@@ -259,5 +215,4 @@ err_malformed federation bytes field_faults.Memory r h =
 pub same_message : (federation : ℕ) (a b : Message) → IsMessage a → IsMessage b
     → datagram_of federation a ≡ datagram_of federation b → a ≡ b
 same_message federation a b h h' e =
-    some_is a b
-    (sym (datagram_read federation a h) ∙ ap datagram_at e ∙ datagram_read federation b h')
+    cc (datagram_read federation a h, datagram_read federation b h')

@@ -1,7 +1,9 @@
 -- The sites that are left, from the first one to none.
-use Rattle.std.specs.Prelude.{◌≡◌, ℕ, zero, suc, ◌+◌, ◌-◌, ◌<◌, ◌≤◌, List, [], ◌∷◌, ◌++◌}
+use Rattle.std.specs.Prelude.{◌≡◌, ℕ, zero, suc, ◌+◌, ◌-◌, ◌<◌, ◌≤◌, [], ◌∷◌, ◌++◌}
 use Rattle.std.specs.List.{range_with_len}
 use Rattle.std.proofs.Common.{arith, refl, ap, ◌∙◌}
+use Rattle.std.proofs.Math.Nat.{add-zero}
+use Rattle.std.proofs.Math.Numerals.{one-add}
 use Rattle.fed_types.specs.Sites.{sites_to}
 use Rattle.fed_types.specs.inner.After.{sites_after}
 
@@ -21,22 +23,15 @@ no_site before last end =
 -- the last one stands at the end
 last_site : (first n : ℕ)
     → range_with_len first (suc n) ≡ range_with_len first n ++ (first + n) ∷ []
-last_site first zero =
-    let same : first ≡ first + 0 = omega arith in
-    ap (λ (k : ℕ). k ∷ []) same
+last_site first zero = rw add-zero
 last_site first (suc n) =
     let same : first + 1 + n ≡ first + suc n = omega arith in
-    ap (λ (l : List ℕ). first ∷ l)
-    (last_site (first + 1) n
-    ∙ ap (λ (k : ℕ). range_with_len (first + 1) n ++ k ∷ []) same)
+    rw (last_site (first + 1) n, same)
 
 from_one : (n : ℕ) → range_with_len 1 n ≡ sites_to n
 unfolding sites_to
 from_one zero = refl
-from_one (suc n) =
-    let same : 1 + n ≡ suc n = omega arith in
-    last_site 1 n ∙ (ap (λ (l : List ℕ). l ++ (1 + n) ∷ []) (from_one n)
-    ∙ ap (λ (k : ℕ). sites_to n ++ k ∷ []) same)
+from_one (suc n) = rw (last_site 1 n, from_one n, one-add)
 
 -- before the first all sites are left
 pub all_sites : (last : ℕ) → sites_after 0 last ≡ sites_to last

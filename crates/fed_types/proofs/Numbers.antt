@@ -1,11 +1,11 @@
 -- How many members are in a set, by the ones of its word; and where each weight is 1, what they
 -- weigh.
-use Rattle.std.specs.Prelude.{◌≡◌, ℕ, zero, suc, ◌+◌, ◌*◌, ◌%◌, ◌/◌, ◌^◌, ◌<◌, ◌≤◌, Bool}
-use Rattle.std.specs.Prelude.{cond, ◌&&◌, ◌==◌, refl, count_ones}
+use Rattle.std.specs.Prelude.{◌≡◌, ℕ, zero, suc, ◌+◌, ◌*◌, ◌%◌, ◌/◌, ◌^◌, ◌<◌, ◌≤◌, Bool, cond}
+use Rattle.std.specs.Prelude.{◌==◌, refl, count_ones}
 use Rattle.std.specs.Int.{bit_at}
 use Rattle.std.specs.Int.Count.{ones_step}
 use Rattle.std.specs.List.{count_by, sum_by}
-use Rattle.std.proofs.Common.{arith, ap, ◌∙◌, lt-ltb}
+use Rattle.std.proofs.Common.{arith, ◌∙◌, lt-ltb}
 use Rattle.std.proofs.lemmas.Nat.{mod-pow-add, ones_le_self}
 use Rattle.std.proofs.lemmas.Nat.Bits.{bit_at-lt, bit_at-suc, bit_at_lowest}
 use Rattle.std.proofs.lemmas.List.Sums.{sum_by_push}
@@ -41,13 +41,8 @@ pub ones_next : (word n : ℕ)
 ones_next word zero =
     omega (arith, last_and_half word 0, no_places word, no_places (word / 2), bit_at_lowest word)
 ones_next word (suc n) =
-    omega (
-      arith,
-      last_and_half word (suc n),
-      ones_next (word / 2) n,
-      last_and_half word n,
-      bit_at-suc word n,
-    )
+    let next = ones_next (word / 2) n in
+    omega (arith, last_and_half word (suc n), last_and_half word n, bit_at-suc word n)
 
 -- ---- how many of the sites 1 to n pass a test
 number_none : (p : ℕ → Bool) → count_by p (sites_to 0) ≡ 0
@@ -70,19 +65,10 @@ pub number_is : (word n : ℕ) → n < 64
 number_is word zero l =
     omega (arith, no_places (word / 2), number_none (is_in (bits_below word 64)))
 number_is word (suc n) l =
-    let here : cond (is_in (bits_below word 64) (suc n)) 1 0 ≡ bit_at (word / 2) n =
-    ap (λ (t : Bool). cond t 1 0)
-    (is_in-bits_below word 64 (suc n)
-    ∙ ap (λ (t : Bool). t && bit_at word (suc n) == 1) (lt-ltb (suc n) 64 l))
-    ∙ one_or_none (bit_at word (suc n)) (bit_at-lt word (suc n))
-    ∙ bit_at-suc word n in
-    omega (
-      arith,
-      ones_next (word / 2) n,
-      number_is word n (omega arith),
-      number_next (is_in (bits_below word 64)) n,
-      here,
-    )
+    let before = number_is word n (omega arith) in
+    let here = one_or_none (bit_at word (suc n)) (bit_at-lt word (suc n)) in
+    rw (ones_next (word / 2) n, number_next (is_in (bits_below word 64)) n)
+    (rw (is_in-bits_below word 64 (suc n), lt-ltb (suc n) 64 l, ← bit_at-suc word n) (omega arith))
 
 -- ---- weights of 1
 -- n weights of at least 1 are at least n
@@ -104,9 +90,6 @@ weigh_one f p (suc n) some most =
     let low = at_least f n (λ i low l. some i low (omega arith)) in
     let last = some (suc n) (omega arith) (omega arith) in
     let push = sum_by_push f (sites_to n) (suc n) in
-    let before = weigh_one f p n (λ i low l. some i low (omega arith))
-    (omega (arith, most, low, last, push)) in
-    let one : f (suc n) ≡ 1 = omega (arith, most, low, last, push) in
-    let here : cond (p (suc n)) (f (suc n)) 0 ≡ cond (p (suc n)) 1 0 =
-    ap (λ (w : ℕ). cond (p (suc n)) w 0) one in
-    omega (arith, among_next f p n, before, here, number_next p n)
+    let one : f (suc n) ≡ 1 = omega arith in
+    let before = weigh_one f p n (λ i low l. some i low (omega arith)) (omega arith) in
+    rw (among_next f p n, number_next p n, one) (omega arith)

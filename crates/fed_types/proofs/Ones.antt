@@ -1,12 +1,12 @@
 -- The sites in a word, one after the other from the lowest: each is cleared once it is counted.
 use Rattle.std.specs.Prelude.{◌≡◌, ◌≢◌, ℕ, ◌*◌, ◌%◌, ◌/◌, ◌^◌, ◌+◌, ◌-◌, ◌<◌, ◌≤◌, Bool, ◌==◌, refl}
-use Rattle.std.specs.Prelude.{zero, suc, ◌&&◌, bit_and}
+use Rattle.std.specs.Prelude.{zero, suc, bit_and}
 use Rattle.std.specs.Int.{bit_at, bit_not, trailing_zeros, w64}
 use Rattle.std.proofs.Common.{arith, sym, ap, ◌∙◌, lt-ltb}
 use Rattle.std.proofs.lemmas.Nat.{and_le_l, and_le_r}
 use Rattle.std.proofs.lemmas.Nat.Bits.{bit_at-zero, bit_at-suc, bit_at_and, bit_at_lowest}
-use Rattle.std.proofs.lemmas.Nat.Bits.{bit_at-trailing_zeros}
-use Rattle.std.proofs.lemmas.Nat.Bits.{bit_at_clear_same, bit_at_clear_other}
+use Rattle.std.proofs.lemmas.Nat.Bits.{bit_at-trailing_zeros, bit_at_clear_same, bit_at_clear_other}
+use Rattle.std.proofs.lemmas.Nat.Bits.{bit_at-lt}
 use Rattle.fed_types.specs.Lists.{is_in}
 use Rattle.fed_types.specs.inner.Words.{bits_below}
 use Rattle.fed_types.specs.inner.WordLaws.{is_in-bits_below}
@@ -36,9 +36,9 @@ pub lowest : (rest : ℕ) → 0 < rest → AreSites rest
     → (1 ≤ trailing_zeros w64 rest) × (trailing_zeros w64 rest < 64)
     × (bit_at rest (trailing_zeros w64 rest) ≡ 1)
     × ((i : ℕ) → i < trailing_zeros w64 rest → bit_at rest i ≡ 0)
-lowest rest some sites = go (trailing_zeros w64 rest)
-    (bit_at-trailing_zeros w64 rest some sites.0).0 (bit_at-trailing_zeros w64 rest some sites.0).1
-    (bit_at-trailing_zeros w64 rest some sites.0).2
+lowest rest some sites =
+    let it = bit_at-trailing_zeros w64 rest some sites.0 in
+    go (trailing_zeros w64 rest) it.0 it.1 it.2
   where
     go : (k : ℕ) → k < 64 → bit_at rest k ≡ 1 → ((i : ℕ) → i < k → bit_at rest i ≡ 0)
         → (1 ≤ k) × (k < 64) × (bit_at rest k ≡ 1) × ((i : ℕ) → i < k → bit_at rest i ≡ 0)
@@ -53,16 +53,8 @@ without_lowest rest = bit_and rest (rest - 1)
 half_of : (b j : ℕ) → b % 2 ≡ 0 → bit_at (without_lowest b) (suc j)
     ≡ bit_at (without_lowest (b / 2)) j
 half_of b j even =
-    let half : (b - 1) / 2 ≡ b / 2 - 1 = omega (arith, even) in
-    let below : bit_at (b - 1) (suc j) ≡ bit_at (b / 2 - 1) j =
-    bit_at-suc (b - 1) j ∙ ap (λ (x : ℕ). bit_at x j) half in
-    omega (
-      arith,
-      bit_at_and b (b - 1) (suc j),
-      bit_at_and (b / 2) (b / 2 - 1) j,
-      bit_at-suc b j,
-      below,
-    )
+    let half : (b - 1) / 2 ≡ b / 2 - 1 = omega arith in
+    simp (bit_at_and, bit_at-suc, half)
 
 -- it has no one where the lowest stood, and is the same at each other place
 pub lowest_gone : (k b : ℕ) → bit_at b k ≡ 1 → ((i : ℕ) → i < k → bit_at b i ≡ 0)
@@ -78,13 +70,11 @@ lowest_gone zero b one none = (
     other zero differ = absurd (differ refl)
     other (suc j) differ =
         let half : (b - 1) / 2 ≡ b / 2 = omega (arith, one, bit_at_lowest b) in
-        let same : bit_at (b - 1) (suc j) ≡ bit_at b (suc j) =
-        bit_at-suc (b - 1) j ∙ ap (λ (x : ℕ). bit_at x j) half ∙ sym (bit_at-suc b j) in
-        omega (arith, bit_at_and b (b - 1) (suc j), same)
+        simp (bit_at_and, bit_at-suc, half) (omega (arith, bit_at-lt (b / 2) j))
 lowest_gone (suc k) b one none =
-    let even : b % 2 ≡ 0 = sym (bit_at_lowest b) ∙ none 0 (omega arith) in
-    let later = lowest_gone k (b / 2) (sym (bit_at-suc b k) ∙ one)
-    (λ i l. sym (bit_at-suc b i) ∙ none (suc i) (omega (arith, l))) in
+    let even : b % 2 ≡ 0 = rw bit_at_lowest at (none 0 (omega arith)) in
+    let later = lowest_gone k (b / 2) (rw bit_at-suc at one)
+    (λ i l. rw bit_at-suc at (none (suc i) (omega arith))) in
     (half_of b k even ∙ later.0, other even later.1)
   where
     other : b % 2 ≡ 0 → ((i : ℕ) → i ≢ k → bit_at (without_lowest (b / 2)) i ≡ bit_at (b / 2) i)
@@ -110,26 +100,24 @@ pub counted_first : (f : ℕ → ℕ) (word n : ℕ) → n < 64
     → among f (is_in (bits_below word 64)) n ≡ 0 + among f (has_one (cleared word 0)) n
 counted_first f word n l =
     let same =
-    among_same f (is_in (bits_below word 64)) (has_one (cleared word 0)) n (λ i low most. (
-    is_in-bits_below word 64 i
-    ∙ ap (λ (t : Bool). t && has_one word i) (lt-ltb i 64 (omega arith))
-    ∙ ap (λ (b : ℕ). b == 1)
-    (sym (bit_at_clear_other w64 word 0 (omega arith) i (omega arith) (λ e. omega arith)))
+    among_same f (is_in (bits_below word 64)) (has_one (cleared word 0)) n (λ i low most. rw (
+      is_in-bits_below word 64 i,
+      lt-ltb i 64 (omega arith),
+      bit_at_clear_other w64 word 0 (omega arith) i (omega arith) (λ e. omega arith),
     )) in
-    omega (arith, same)
+    omega arith
 
 -- the lowest site
-pub counted_next : (f : ℕ → ℕ) (rest k n : ℕ) → n < 64 → 1 ≤ k → bit_at rest k ≡ 1
-    → ((i : ℕ) → i < k → bit_at rest i ≡ 0) → (n < k → f k ≡ 0)
-    → among f (has_one rest) n ≡ f k + among f (has_one (without_lowest rest)) n
-counted_next f rest k n most low one none beyond =
-    let gone = lowest_gone k rest one none in
-    among_without f (has_one rest) (has_one (without_lowest rest)) k n low
-    (ap (λ (b : ℕ). b == 1) one)
-    (ap (λ (b : ℕ). b == 1) gone.0)
-    (λ i less differ. ap (λ (b : ℕ). b == 1) (gone.1 i differ)) beyond
+pub counted_next : (f : ℕ → ℕ) (rest n : ℕ) → 0 < rest → AreSites rest
+    → ((site : ℕ) → n < site → f site ≡ 0)
+    → among f (has_one rest) n
+    ≡ f (trailing_zeros w64 rest) + among f (has_one (without_lowest rest)) n
+counted_next f rest n some sites beyond =
+    let k = lowest rest some sites in
+    let gone = lowest_gone (trailing_zeros w64 rest) rest k.2 k.3 in
+    among_without f (has_one rest) (has_one (without_lowest rest)) (trailing_zeros w64 rest) n k.0
+    (rw k.2) (rw gone.0) (λ i less differ. rw (gone.1 i differ)) (beyond (trailing_zeros w64 rest))
 
 -- none is left
 pub counted_none : (f : ℕ → ℕ) (n : ℕ) → among f (has_one 0) n ≡ 0
-counted_none f n =
-    among_nobody f (has_one 0) n (λ i. ap (λ (b : ℕ). b == 1) (bit_at-zero i))
+counted_none f n = among_nobody f (has_one 0) n (λ i. rw (bit_at-zero i))

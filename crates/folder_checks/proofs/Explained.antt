@@ -61,7 +61,8 @@ unread_is Validity read tree_faults.BadPath is = rw is refl
 unread_is Completeness read tree_faults.BadPath is = rw is refl
 
 -- the answer for a folder that wasn't read
-pub unread : (question : Question) (read : Result TreeFacts TreeFault) (known place : Option (List ℕ)) (fault : TreeFault)
+pub unread : (question : Question) (read : Result TreeFacts TreeFault)
+    (known place : Option (List ℕ)) (fault : TreeFault)
     (r : Result ProgramOutput AllocError) → tree_numbers.IsOrMemory (Err fault) read
     → IsPlace known place
     → IfOk r (λ a. a.status ≡ (outcome_with (Unread fault) (unread_line fault place)).status)
@@ -90,7 +91,8 @@ unread_known question (Some gives) known place path lines fault (Ok a) is at sam
     (t ∙ ap (λ l. (outcome_with (Unread fault) l).text) same)
 
 -- the answer for a folder that was read, where it is known what a read gives
-pub read_known : (question : Question) (gives : Option (List ℕ → Result TreeFacts TreeFault)) (known : Option (List ℕ))
+pub read_known : (question : Question) (gives : Option (List ℕ → Result TreeFacts TreeFault))
+    (known : Option (List ℕ))
     (path : List ℕ) (facts : TreeFacts) (r : Result ProgramOutput AllocError)
     → IfSome gives (λ gives. tree_numbers.IsOrMemory {T = TreeFacts} (Ok facts) (gives path))
     → IfOk r (λ a. (known : Option (List ℕ))

@@ -11,7 +11,7 @@ use Rattle.serde_json.specs.Data.{Items, item, depth, items_depth, members_depth
 use Rattle.serde_json.specs.View.{items_of}
 use Rattle.serde_json.specs.Read.{read, max_depth}
 use Rattle.serde_json.specs.Written.{compact_text, has_float, items_have_float, members_have_float}
-use Rattle.words.specs.Escapes.{escaped_text}
+use Rattle.tokens.specs.Escapes.{escaped_text}
 use Rattle.bag_tree.specs.Fault as tree_numbers
 use Rattle.bag_check.specs.Fault as bag_numbers
 use Rattle.folder_checks.specs.declared.measure.Measure.{Measure}
@@ -122,7 +122,8 @@ array_plain most items are = record {
 plain_places : (lines : Option (List ℕ)) → IsPlain 2 (places_data lines)
 plain_places None = plain_null 2
 plain_places (Some lines) =
-    array_plain 1 (items_of (map finding_data (names_of 10 lines))) (plain_findings (names_of 10 lines))
+    array_plain 1 (items_of (map finding_data (names_of 10 lines)))
+    (plain_findings (names_of 10 lines))
 
 pub plain_folder : (name : List ℕ) (verdict : Verdict) (files : Option ℕ) (measure : Measure)
     (lines words : Option (List ℕ)) → IsPlain 3 (folder_data name verdict files measure lines words)

@@ -9,8 +9,8 @@ use Rattle.serde_json.specs.Data.{member, no_members}
 use Rattle.serde_json.specs.View.{items_of}
 use Rattle.serde_json.specs.Written.{compact_text}
 use Rattle.serde_json.specs.Read.{read}
-use Rattle.words.specs.Escapes.{escaped_text}
-use Rattle.words.specs.Words.{number_in}
+use Rattle.tokens.specs.Escapes.{escaped_text}
+use Rattle.tokens.specs.Words.{number_in}
 use Rattle.bag_tree.specs.declared.fault.TreeFault.{TreeFault}
 use Rattle.bag_tree.specs.Facts.{TreeFacts}
 use Rattle.bag_tree.specs.Fault as tree_numbers
@@ -20,7 +20,8 @@ use Rattle.folder_checks.specs.declared.report.Report.{Report}
 use Rattle.folder_checks.specs.declared.report.Detail.{Detail}
 use Rattle.folder_checks.specs.declared.report.Detail.TheVariants.{Brief, Explained}
 use Rattle.folder_checks.specs.declared.verdict.Verdict.{Verdict}
-use Rattle.folder_checks.specs.declared.verdict.Verdict.TheVariants.{Valid, Complete, Invalid, Unread}
+use Rattle.folder_checks.specs.declared.verdict.Verdict.TheVariants.{Valid, Complete, Invalid}
+use Rattle.folder_checks.specs.declared.verdict.Verdict.TheVariants.{Unread}
 use Rattle.outcomes.specs.Outcomes.{Outcome}
 use Rattle.folder_checks.specs.Verdicts.{verdict_by, IsOrMemory, outcome_of_verdict}
 use Rattle.folder_checks.specs.Explanations.{IsPlace, lines_after}

@@ -2,7 +2,7 @@
 use Rattle.std.specs.Prelude.{◌≡◌, ◌⊎◌, ℕ, Bool, true, false, if◌then◌else◌, nat_eq}
 use Rattle.std.specs.Prelude.{List, [], ◌∷◌, ◌++◌, take, Option, Result}
 use Rattle.std.specs.List.{flat_map, list_all}
-use Rattle.words.specs.Escapes.{escaped_text}
+use Rattle.tokens.specs.Escapes.{escaped_text}
 use Rattle.bag_tree.specs.declared.fault.TreeFault.{TreeFault}
 use Rattle.bag_tree.specs.Facts.{TreeFacts}
 use Rattle.folder_checks.specs.declared.report.Report.{Report}

@@ -15,7 +15,8 @@ use Rattle.bag_check.specs.Complete.{complete_of}
 use Rattle.folder_checks.specs.declared.report.Question.{Question}
 use Rattle.folder_checks.specs.declared.report.Question.TheVariants.{Validity, Completeness}
 use Rattle.folder_checks.specs.declared.verdict.Verdict.{Verdict}
-use Rattle.folder_checks.specs.declared.verdict.Verdict.TheVariants.{Valid, Complete, Invalid, Unread}
+use Rattle.folder_checks.specs.declared.verdict.Verdict.TheVariants.{Valid, Complete, Invalid}
+use Rattle.folder_checks.specs.declared.verdict.Verdict.TheVariants.{Unread}
 use Rattle.outcomes.specs.Outcomes.{Outcome, no_memory}
 
 abbrev pub verdict_of_check : Result BagId BagFault → Verdict

@@ -16,7 +16,7 @@ use bag_tree::{Algorithms, Facts, TreeFault};
 use counted_writes::{CountedWrite, write_output};
 use outcomes::{ProgramFault, ProgramOutput};
 use std::alloc::{AllocError, Global};
-use words::push_escaped;
+use tokens::push_escaped;
 
 /// Checks the folder of this path, and writes its verdict as `check_on` does, with the same status.
 /// Then it writes a line for each fault at each place where it holds, or for the place where the

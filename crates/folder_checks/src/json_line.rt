@@ -1,9 +1,10 @@
 //! One check of a folder, as a line of JSON.
 
-ghost use Rattle.std.specs.Prelude.{◌≡◌, ◌++◌, ℕ, List, [], ◌∷◌, Option, codes, option_map, option_copied, IfOk, IfSome, OnOk, string_bytes};
+ghost use Rattle.std.specs.Prelude.{◌≡◌, ◌++◌, ℕ, List, [], ◌∷◌, Option, codes, option_map};
+ghost use Rattle.std.specs.Prelude.{option_copied, IfOk, IfSome, OnOk, string_bytes};
 ghost use Rattle.serde_json.specs.Data.{string, put as with_member};
 ghost use Rattle.serde_json.specs.View.{view, members_view};
-ghost use Rattle.words.specs.Escapes.{escaped_text};
+ghost use Rattle.tokens.specs.Escapes.{escaped_text};
 ghost use Rattle.folder_checks.specs.Forms.{IsJson};
 ghost use Rattle.folder_checks.specs.Json.{IsLineOf, folder_data};
 ghost use Rattle.folder_checks.specs.Verdicts.{outcome_of_verdict};

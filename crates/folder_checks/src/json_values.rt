@@ -1,9 +1,10 @@
 //! The parts of what is said of a folder as JSON.
 
-ghost use Rattle.std.specs.Prelude.{◌≡◌, ◌+◌, ◌==◌, IfOk, map, take, drop, position, option_copied, option_map, string_bytes};
+ghost use Rattle.std.specs.Prelude.{◌≡◌, ◌+◌, ◌==◌, IfOk, map, take, drop, position, option_copied};
+ghost use Rattle.std.specs.Prelude.{option_map, string_bytes};
 ghost use Rattle.serde_json.specs.Data.{Data, string, array, put as with_member};
 ghost use Rattle.serde_json.specs.View.{view, members_view, items_of};
-ghost use Rattle.words.specs.Escapes.{escaped_text};
+ghost use Rattle.tokens.specs.Escapes.{escaped_text};
 ghost use Rattle.folder_checks.specs.Names.{names_of};
 ghost use Rattle.folder_checks.specs.Json.{text_data, code_data, identity_data, verdict_word};
 ghost use Rattle.folder_checks.specs.Json.{finding_data, places_data, finding_at, words_data};
@@ -16,7 +17,7 @@ use code_words::{Meaning, invalid, unread};
 use serde_json::{Map, Value};
 use std::alloc::{AllocError, Global};
 use std::str;
-use words::parse_number;
+use tokens::parse_number;
 
 /// A text; null for bytes that aren't UTF-8.
 pub(crate) fn text_value(alloc: Global, bytes: &[u8]) -> Result<Value, AllocError>

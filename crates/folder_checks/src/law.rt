@@ -4,7 +4,7 @@ ghost use Rattle.std.specs.Prelude.{◌≡◌, ℕ, List, Option, Some, codes, t
 ghost use Rattle.std.specs.Str.{is_utf8};
 ghost use Rattle.serde_json.specs.Data.{string};
 ghost use Rattle.serde_json.specs.Find.{get};
-ghost use Rattle.words.specs.Escapes.{escaped_text};
+ghost use Rattle.tokens.specs.Escapes.{escaped_text};
 ghost use Rattle.folder_checks.specs.declared.measure.Measure.{Measure};
 ghost use Rattle.folder_checks.specs.declared.verdict.Verdict.{Verdict};
 ghost use Rattle.folder_checks.specs.Json.{folder_data};

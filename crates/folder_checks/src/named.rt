@@ -1,13 +1,13 @@
 //! Texts with the name of a folder before each line.
 
 ghost use Rattle.std.specs.Prelude.{◌≡◌, true, IfOk};
-ghost use Rattle.words.specs.Escapes.{escaped_text};
-ghost use Rattle.words.specs.Pushes.{Pushes};
+ghost use Rattle.tokens.specs.Escapes.{escaped_text};
+ghost use Rattle.tokens.specs.Pushes.{Pushes};
 ghost use Rattle.folder_checks.specs.Reports.{named_from};
 
 use percent_encoding::{AsciiSet, CONTROLS, ascii_set, percent_encode};
 use std::alloc::{AllocError, Global};
-use words::push_escaped;
+use tokens::push_escaped;
 
 // What `push_escaped` escapes below 80. Bytes from there on are escaped whatever the set has.
 const ESCAPED: AsciiSet = ascii_set!(CONTROLS.add(b' ').add(b'%'));

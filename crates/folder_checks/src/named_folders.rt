@@ -25,10 +25,10 @@ use std::alloc::{AllocError, Global};
 use std::str;
 
 /// Checks the folders of these names one by one, and writes for each what a check of it alone
-/// writes, with its name, escaped, and a space before each line; or its line of JSON. Names may be any bytes: one that
-/// isn't UTF-8 is a folder that can't be listed. The status is 0 if each folder is a valid bag, and
-/// else 1. If there was no room for the lines of a folder, they are `memory` alone, or an object that
-/// says so, and the other folders have theirs.
+/// writes, with its name, escaped, and a space before each line; or its line of JSON. Names may be
+/// any bytes: one that isn't UTF-8 is a folder that can't be listed. The status is 0 if each folder
+/// is a valid bag, and else 1. If there was no room for the lines of a folder, they are `memory`
+/// alone, or an object that says so, and the other folders have theirs.
 pub fn check_names_on<F: Folders + Measured, W: CountedWrite>(
     alloc: Global,
     folders: &mut F,

@@ -1,6 +1,7 @@
 //! One check of a folder.
 
-ghost use Rattle.std.specs.Prelude.{◌≡◌, ◌++◌, ◌∷◌, [], ℕ, List, Option, Some, Ok, length, IfErr, IfOk, IfSome, IsErrOf, string_bytes};
+ghost use Rattle.std.specs.Prelude.{◌≡◌, ◌++◌, ◌∷◌, [], ℕ, List, Option, Some, Ok, length, IfErr};
+ghost use Rattle.std.specs.Prelude.{IfOk, IfSome, IsErrOf, string_bytes};
 ghost use Rattle.hex.specs.Hex.{encode_lower};
 ghost use Rattle.outcomes.specs.Outcomes.{Writes, WritesPrefix};
 ghost use Rattle.cell_device.specs.Calls.{HasCause};
@@ -31,9 +32,10 @@ pub enum Verdict {
     Unread(TreeFault),
 }
 
-/// Checks the folder of this path, and writes its verdict as one line: `valid HEX`, or `complete HEX`
-/// if that is asked, with status 0, the identity in 128 hex digits; `invalid N` or `unread N` with status 1, the number of the
-/// fault. If there was no room for the line, it is `memory` with status 1.
+/// Checks the folder of this path, and writes its verdict as one line: `valid HEX`, or
+/// `complete HEX` if that is asked, with status 0, the identity in 128 hex digits; `invalid N` or
+/// `unread N` with status 1, the number of the fault. If there was no room for the line, it is
+/// `memory` with status 1.
 pub fn check_on<F: Folders, W: CountedWrite>(
     alloc: Global,
     folders: &mut F,

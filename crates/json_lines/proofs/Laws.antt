@@ -5,8 +5,8 @@ use Rattle.std.specs.Prelude.{◌==◌}
 use Rattle.std.specs.List.{All}
 use Rattle.std.proofs.lemmas.Bool.{ne_eqb}
 use Rattle.std.proofs.lemmas.List.Splits.{slice_split_none, slice_split_at}
-use Rattle.words.specs.Escapes.{escaped_text}
-use Rattle.words.proofs.EscapeLemmas.{All-escaped}
+use Rattle.tokens.specs.Escapes.{escaped_text}
+use Rattle.tokens.proofs.EscapeLemmas.{All-escaped}
 use Rattle.json_lines.specs.Json.{words_in}
 use Rattle.json_lines.specs.Lines.{json_of, json_text, begun_after}
 

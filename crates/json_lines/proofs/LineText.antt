@@ -139,9 +139,3 @@ pub part_of_line : (old new : Option (List ℕ)) (begun bytes memory : List ℕ)
     ⊎ Appends old new (take n memory))
 part_of_line old new begun bytes memory end is part =
     (end + 1, part.0, rw (ended_text begun bytes end is) part.1)
-
-pub part_of_memory : (old new : Option (List ℕ)) (begun bytes memory : List ℕ)
-    → (n : ℕ) × Appends old new (take n memory)
-    → (k n : ℕ) × (Appends old new (take n (json_text begun (take k bytes)))
-    ⊎ Appends old new (take n memory))
-part_of_memory old new begun bytes memory part = (0, part.0, inr part.1)

@@ -22,7 +22,7 @@ use Rattle.serde_json.specs.Data.{Items, depth, items_depth, members_depth, put}
 use Rattle.serde_json.specs.View.{items_of}
 use Rattle.serde_json.specs.Read.{read, max_depth}
 use Rattle.serde_json.specs.Written.{compact_text, has_float, items_have_float, members_have_float}
-use Rattle.words.specs.Words.{text_of, number_in}
+use Rattle.tokens.specs.Words.{text_of, number_in}
 use Rattle.json_lines.specs.Forms.{FormPart, word, name, number, text, numbers, LineForm}
 use Rattle.json_lines.specs.Forms.{after, form_of}
 use Rattle.json_lines.specs.Json.{IsLineOf, text_data, name_data, number_data, number_in_word}

@@ -50,8 +50,8 @@ cell = name (codes "cell")
 abbrev pub federation : FormPart
 federation = text (codes "federation")
 
--- the lines of journal and ledger, of audit, of members, of status and of catch-up; the two of counts
--- come last, since they begin with no word of their own
+-- the lines of journal and ledger, of audit, of members, of status and of catch-up; the two of
+-- counts come last, since they begin with no word of their own
 unfoldable pub forms : List LineForm
 forms =
     of_kind (codes "cell") (word (codes "cell") ∷ federation ∷ site ∷ numbers (codes "weights")

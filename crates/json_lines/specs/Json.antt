@@ -10,7 +10,7 @@ use Rattle.serde_json.specs.Data.{object, Members, no_members, put}
 use Rattle.serde_json.specs.View.{items_of}
 use Rattle.serde_json.specs.Written.{compact_text}
 use Rattle.serde_json.specs.Read.{read}
-use Rattle.words.specs.Words.{number_in, text_of}
+use Rattle.tokens.specs.Words.{number_in, text_of}
 use Rattle.json_lines.specs.Forms.{FormPart, word, name, number, text, numbers, LineForm}
 use Rattle.json_lines.specs.Forms.{after, form_of}
 

@@ -3,13 +3,13 @@
 ghost use Rattle.std.specs.Prelude.{◌≡◌, map, IfOk};
 ghost use Rattle.serde_json.specs.Data.{array};
 ghost use Rattle.serde_json.specs.View.{view, items_of};
-ghost use Rattle.words.specs.Words.{text_of};
+ghost use Rattle.tokens.specs.Words.{text_of};
 ghost use Rattle.json_lines.specs.Json.{text_data, name_data, number_in_word};
 
 use serde_json::Value;
 use std::alloc::{AllocError, Global};
 use std::str;
-use words::{parse_number, parse_text};
+use tokens::{parse_number, parse_text};
 
 /// A text; null for bytes that aren't UTF-8.
 pub(crate) fn text_value(alloc: Global, bytes: &[u8]) -> Result<Value, AllocError>

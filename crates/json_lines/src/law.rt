@@ -4,7 +4,7 @@ ghost use Rattle.std.specs.Prelude.{◌≡◌, ◌≢◌, ◌++◌, ◌∷◌, �
 ghost use Rattle.std.specs.Str.{is_utf8, IsUtf8};
 ghost use Rattle.serde_json.specs.Data.{string};
 ghost use Rattle.serde_json.specs.Find.{get};
-ghost use Rattle.words.specs.Escapes.{escaped_text};
+ghost use Rattle.tokens.specs.Escapes.{escaped_text};
 ghost use Rattle.json_lines.specs.Json.{line_data, number_in_word};
 ghost use Rattle.json_lines.specs.Lines.{json_text, begun_after};
 

@@ -6,7 +6,7 @@ use Rattle.std.specs.Prelude.{Result, Ok, Err}
 use Rattle.std.specs.Str.Lines.{lines}
 use Rattle.tags.specs.Hmac.{key_block}
 use Rattle.tags.specs.Rings.{Ring, ring_of}
-use Rattle.words.specs.Words.{◌>>=◌, words_of}
+use Rattle.tokens.specs.Words.{◌>>=◌, words_of}
 use Rattle.key_file.specs.declared.key_line.KeyKind.{KeyKind}
 use Rattle.key_file.specs.declared.key_line.KeyKind.TheVariants.{Sites, Clients}
 use Rattle.key_file.specs.declared.key_line.KeyLine.{KeyLine}

@@ -6,7 +6,7 @@ use Rattle.std.specs.List.{list_any}
 use Rattle.std.specs.Result.{result_ok}
 use Rattle.std.specs.Str.{bytes_eq}
 use Rattle.hex.specs.Hex.{decode_sized}
-use Rattle.words.specs.Words.{◌>>=◌}
+use Rattle.tokens.specs.Words.{◌>>=◌}
 use Rattle.key_file.specs.declared.key_line.KeyKind.{KeyKind}
 use Rattle.key_file.specs.declared.key_line.KeyKind.TheVariants.{Sites, Clients}
 use Rattle.key_file.specs.declared.key_line.KeyLine.{KeyLine}

@@ -3,12 +3,12 @@
 ghost use Rattle.std.specs.Prelude.{◌≡◌, map, length, IfOk, option_map};
 ghost use Rattle.std.specs.Char.{is_ascii_uppercase};
 ghost use Rattle.std.specs.List.{list_any};
-ghost use Rattle.words.specs.Words.{words_of};
+ghost use Rattle.tokens.specs.Words.{words_of};
 ghost use Rattle.key_file.specs.Files.{same_kind, next_key, of_kind};
 ghost use Rattle.key_file.specs.Lines.{key_in, kind_in, line_in};
 
 use std::alloc::{AllocError, Global};
-use words::split_words;
+use tokens::split_words;
 
 /// The bytes of a key: a block of SHA-256.
 pub const KEY_BYTES: usize = 64;

@@ -1,5 +1,5 @@
 ghost use Rattle.std.specs.Prelude.{◌≡◌, IfOk, string_bytes};
-ghost use Rattle.words.specs.Pushes.{Pushes};
+ghost use Rattle.tokens.specs.Pushes.{Pushes};
 ghost use Rattle.key_file.specs.Texts.{name_of, text_of_key, text_of};
 
 use crate::key_line::{KEY_BYTES, KeyKind};

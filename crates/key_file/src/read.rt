@@ -6,7 +6,7 @@ use crate::key_fault::KeyFault;
 use crate::key_line::{KeyKind, KeyLine, count_of, next_key};
 use std::alloc::{AllocError, Global};
 use tags::{KeyRing, TagKey};
-use words::first_line;
+use tokens::first_line;
 
 /// The ring of a text's keys, or the number of its first line at fault. `Memory` is answered only
 /// if an allocation failed.

@@ -12,8 +12,8 @@ use Rattle.hex.specs.Hex.{decode_sized}
 use Rattle.fed_types.specs.declared.bag_id.BagId.{BagId}
 use Rattle.fed_types.specs.Limits.{bag_len}
 use Rattle.fed_types.specs.Slots.{SlotName}
-use Rattle.words.specs.Slots.{slot_of}
-use Rattle.words.specs.Words.{◌>>=◌, words_of}
+use Rattle.tokens.specs.Slots.{slot_of}
+use Rattle.tokens.specs.Words.{◌>>=◌, words_of}
 use Rattle.known_bags.specs.declared.known_bag.KnownBag.{KnownBag}
 
 -- a bag that is known for a version, before it is looked for anywhere

@@ -88,7 +88,8 @@ IsUnread fault = (fault ≡ Unread) ⊎ (fault ≡ Memory)
 -- a source that can't be opened, since an error of this kind came: memory ran out, or it can't be
 -- read
 abbrev pub IsUnopened : ErrorKind → SourceFault → Type 0
-IsUnopened kind fault = (kind ≡ OutOfMemory → fault ≡ Memory) × (kind ≢ OutOfMemory → fault ≡ Unread)
+IsUnopened kind fault = (kind ≡ OutOfMemory → fault ≡ Memory) ×
+    (kind ≢ OutOfMemory → fault ≡ Unread)
 
 -- what the files of these paths have, where that is known; none inside where one can't be read
 abbrev pub Files : Type 0

@@ -11,7 +11,7 @@ ghost use Rattle.known_bags.specs.inner.Lists.{IsListOf};
 use crate::known_bag::KnownBag;
 use fed_types::{BAG_BYTES, BagId};
 use std::alloc::{AllocError, Global};
-use words::{first_line, parse_slot, split_words};
+use tokens::{first_line, parse_slot, split_words};
 
 /// Why a list can't be read.
 #[derive(Clone, Copy, Debug)]

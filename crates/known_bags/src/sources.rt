@@ -1,6 +1,7 @@
 //! The files that say what is known: cells, and lists of their versions.
 
-ghost use Rattle.std.specs.Prelude.{◌≡◌, ◌++◌, true, false, map, IfOk, IfErr, IfSome, IsErrAnd, OnOk};
+ghost use Rattle.std.specs.Prelude.{◌≡◌, ◌++◌, true, false, map, IfOk, IfErr, IfSome, IsErrAnd};
+ghost use Rattle.std.specs.Prelude.{OnOk};
 ghost use Rattle.std.specs.Option.{option_to_list};
 ghost use Rattle.std.specs.IoError.{error_kind};
 ghost use Rattle.known_bags.specs.Sources.{is_cell, known_by, known_of, IsSourceOf, Keeps};

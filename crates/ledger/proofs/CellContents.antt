@@ -1,14 +1,12 @@
 -- What was found and read of a cell, as its contents.
-use Rattle.std.proofs.Common.{◌≡◌, ◌<◌, ◌^◌, ℕ, List, [], ◌∷◌, length, take, Ok, Err, Bool}
-use Rattle.std.proofs.Common.{Result, refl, sym, ap, subst, ◌∙◌, arith, inl, inr, length-append}
+use Rattle.std.proofs.Common.{◌≡◌, ℕ, List, [], ◌∷◌, length, take, Ok, Err, Bool}
+use Rattle.std.proofs.Common.{Result, refl, sym, ap, ◌∙◌, arith, inl, inr, length-append}
 use Rattle.std.specs.Prelude.{IfOk}
-use Rattle.std.specs.List.{All}
 use Rattle.std.specs.declared.alloc.AllocError.{AllocError}
 use Rattle.std.proofs.lemmas.List.{append-nil, take_at}
 use Rattle.std.proofs.lemmas.List.Elements.{All-replicate}
 use Rattle.records.specs.declared.owner.Owner.{Owner}
-use Rattle.fed_types.specs.Limits.{federation_bits}
-use Rattle.fed_types.specs.Sites.{AreWeights, IsSiteNumber, IsWeight}
+use Rattle.fed_types.specs.Sites.{AreWeights, IsWeight}
 use Rattle.records.specs.Starts.{Start, Old, New, Carried, HasWeights, IsStart, text_bytes}
 use Rattle.records.specs.Journals.{Reaches, IsEnd, HasEnd}
 use Rattle.ledger.specs.declared.contents.Contents.{Contents}
@@ -21,12 +19,11 @@ use Rattle.ledger.proofs.SameOwners.{reaches_of, end_of, damage_of}
 
 pub weights_of : (start : Start) (weights : List ℕ) (named : Bool) → NamesWeights start weights named
     → HasWeights weights start
-weights_of Old weights named h =
-    subst (All (λ (w : ℕ). w ≡ 1)) (sym h.0) (All-replicate (λ (w : ℕ). w ≡ 1) 1 1 refl)
+weights_of Old weights named h = rw h.0 (All-replicate (λ (w : ℕ). w ≡ 1) 1 1 refl)
 weights_of (New its) weights named h = sym h.0
 weights_of (Carried rs its) weights named h = sym h.0
 
-ends_with : (owner : Owner) (bytes : List ℕ) (start : Start) (rest : List ℕ)
+pub ends_with : (owner : Owner) (bytes : List ℕ) (start : Start) (rest : List ℕ)
     → IsEnd owner start rest → EndsWith owner bytes start rest (ending_of (length rest))
 ends_with owner bytes start [] h = refl
 ends_with owner bytes start (a ∷ rest) (inl none) = absurd (cc none)
@@ -36,21 +33,16 @@ ends_with owner bytes start (a ∷ rest) (inr torn) = (torn, omega arith, refl)
 their_weights : (start : Start) (weights : List ℕ) (named : Bool) → IsStart start
     → NamesWeights start weights named → AreWeights weights
 their_weights Old weights named is h =
-    subst AreWeights (sym h.0) ((omega arith, omega arith), All-replicate IsWeight 1 1 one)
-  where
-    one : IsWeight 1
-    one = (omega arith, omega arith)
-their_weights (New its) weights named is h = subst AreWeights (sym h.0) is
-their_weights (Carried rs its) weights named is h = subst AreWeights (sym h.0) is.1
+    rw h.0 ((omega arith, omega arith), All-replicate IsWeight 1 1 (omega arith, omega arith))
+their_weights (New its) weights named is h = rw h.0 is
+their_weights (Carried rs its) weights named is h = rw h.0 is.1
 
 -- whom it names
 named_owner : (owner : Owner) (bytes : List ℕ) → IsHeadedBy owner bytes → (its : Owner)
     → its.members.federation ≡ owner.members.federation → its.site ≡ owner.site
     → AreWeights its.members.weights → IsOwner its
-named_owner owner bytes h its federation site weights = (
-  (subst (λ (n : ℕ). n < 2 ^ federation_bits) (sym federation) h.federation, weights),
-  subst IsSiteNumber (sym site) h.site,
-)
+named_owner owner bytes h its federation site weights =
+    ((rw federation h.federation, weights), rw site h.site)
 
 -- a text that was read, and how a cell goes on that begins with it
 told : (owner : Owner) (bytes text : List ℕ) → IsHeadedBy owner bytes → (e : HasEnd owner text)
@@ -78,8 +70,7 @@ pub tells : (owner : Owner) (bytes : List ℕ) → IsHeadedBy owner bytes → Ha
     → (r : Result Contents AllocError) → IfOk r (IsTextRead owner bytes) → IfOk r (IsCell bytes)
 tells owner bytes h e (Ok contents) t =
     told owner bytes bytes h e contents t e.end e.reaches contents.ending
-    (subst (EndsWith contents.owner bytes e.start e.end)
-    (sym (t.all e.start e.records e.end e.reaches e.ends).2)
+    (rw (t.all e.start e.records e.end e.reaches e.ends).2
     (ends_with contents.owner bytes e.start e.end
     (end_of owner contents.owner (sym t.federation) (sym t.site) e.start e.end e.ends)))
 tells owner bytes h e (Err fault) t = tt

@@ -1,6 +1,6 @@
 -- The lines of what a cell says, piece by piece.
 use Rattle.std.proofs.Common.{◌≡◌, ℕ, List, [], ◌++◌, Option, None, Some, true, refl, sym}
-use Rattle.std.proofs.Common.{ap, subst, ◌∙◌, inl, inr, append_assoc}
+use Rattle.std.proofs.Common.{inl, inr, append_assoc}
 use Rattle.std.proofs.lemmas.Grind.{flat_map-append}
 use Rattle.std.specs.Option.{option_or}
 use Rattle.records.specs.declared.owner.Owner.{Owner}
@@ -12,10 +12,10 @@ use Rattle.ledger.specs.declared.journal_lines.JournalLines.{JournalLines}
 use Rattle.ledger.specs.declared.part.Head.{Head}
 use Rattle.ledger.specs.declared.part.LastPart.{LastPart}
 use Rattle.ledger.specs.declared.part.Part.{Part}
-use Rattle.ledger.specs.Lines.{ending_line, owner_line, record_line, records_text, said_text}
-use Rattle.ledger.specs.Parts.{Told, nothing, and_part, told_of, IsWhole, HasToldBy, HasTold, Fits}
+use Rattle.ledger.specs.Lines.{ending_line, record_line, records_text, said_text}
+use Rattle.ledger.specs.Parts.{Told, nothing, and_part, IsWhole, HasToldBy, HasTold, Fits}
 use Rattle.ledger.specs.Parts.{TellsLast}
-use Rattle.ledger.specs.Pieces.{AreFirstLines, IsWholeText, head_line, part_text, told_text}
+use Rattle.ledger.specs.Pieces.{AreFirstLines, IsWholeText, part_text, told_text}
 use Rattle.ledger.specs.Pieces.{HasGiven}
 use Rattle.ledger.proofs.ToldParts.{longer_reached}
 
@@ -34,38 +34,21 @@ or_none (Some head) p none = refl
 -- the lines of a part come after those of what was told
 parts_text : (told : Told) (part : Part) → Fits told part
     → told_text (and_part told part) ≡ told_text told ++ part_text part
-parts_text told part (inl none) =
-    subst (λ (t : Told). told_text (and_part t part) ≡ told_text t ++ part_text part) (sym none)
-    (sym (ap (λ (t : List ℕ). t ++ part_text part) no_lines))
-parts_text told part (inr none) =
-    let items = part.records.items in
-    ap (λ (h : Option Head). head_line h ++ records_text (told.records ++ items))
-    (or_none told.head part.head none)
-    ∙ ap (λ (t : List ℕ). head_line told.head ++ t) (both_lines told.records items)
-    ∙ sym (append_assoc (head_line told.head) (records_text told.records) (records_text items))
-    ∙ ap (λ (h : Option Head). told_text told ++ (head_line h ++ records_text items)) (sym none)
+parts_text told part (inl none) = rw (none, no_lines) refl
+parts_text told part (inr none) = rw (
+  or_none told.head part.head none,
+  none,
+  both_lines told.records part.records.items,
+  append_assoc,
+) refl
 
 -- all lines
 whole_text : (bytes : List ℕ) (told : Told) (ending : Ending) → IsWhole bytes told ending
     → IsWholeText bytes ending (told_text told ++ ending_line ending)
 unfolding said_text
 whole_text bytes told ending (inl (said, is, e, t)) =
-    inl (
-      said,
-      is,
-      e,
-      ap (λ (x : Told). told_text x ++ ending_line ending) t
-          ∙ ap (λ (x : Ending). told_text (told_of said) ++ ending_line x) (sym e)
-          ∙ append_assoc (owner_line said.owner said.names_weights) (records_text said.records)
-          (ending_line said.ending),
-    )
-whole_text bytes told ending (inr (none, ends, t)) =
-    inr (
-      none,
-      ends,
-      ap (λ (x : Told). told_text x ++ ending_line ending) t
-          ∙ ap (λ (x : List ℕ). x ++ ending_line ending) no_lines,
-    )
+    inl (said, is, e, rw (t, ← e, append_assoc) refl)
+whole_text bytes told ending (inr (none, ends, t)) = inr (none, ends, rw (t, no_lines) refl)
 
 -- the last ones
 pub lines_last : (taken : List ℕ) (told : Told) (last : LastPart) → TellsLast taken told last
@@ -74,11 +57,12 @@ pub lines_last : (taken : List ℕ) (told : Told) (last : LastPart) → TellsLas
     → IsWholeText taken last.ending (text ++ lines)
 lines_last taken told last h text lines e is =
     let end = ending_line last.ending in
-    subst (IsWholeText taken last.ending)
-    (sym (ap (λ (t : List ℕ). t ++ lines) e
-    ∙ ap (λ (t : List ℕ). told_text told ++ t) is
-    ∙ sym (append_assoc (told_text told) (part_text last.part) end)
-    ∙ ap (λ (t : List ℕ). t ++ end) (sym (parts_text told last.part h.0))))
+    rw (
+      e,
+      is,
+      ← append_assoc (told_text told) (part_text last.part) end,
+      ← parts_text told last.part h.0,
+    )
     (whole_text taken (and_part told last.part) last.ending h.1)
 
 -- some more
@@ -86,12 +70,8 @@ pub lines_more : (reader : CellReader) (taken : List ℕ) (told : Told) (part : 
     → Fits told part × HasTold reader taken (and_part told part)
     → (text lines : List ℕ) → text ≡ told_text told → lines ≡ part_text part
     → (all : Told) × HasTold reader taken all × (text ++ lines ≡ told_text all)
-lines_more reader taken told part h text lines e is = (
-  and_part told part,
-  h.1,
-  ap (λ (t : List ℕ). t ++ lines) e ∙ ap (λ (t : List ℕ). told_text told ++ t) is
-      ∙ sym (parts_text told part h.0),
-)
+lines_more reader taken told part h text lines e is =
+    (and_part told part, h.1, rw (e, is) (sym (parts_text told part h.0)))
 
 -- none yet
 pub given_none : (reader : CellReader) → HasTold reader [] nothing
@@ -100,7 +80,7 @@ given_none reader h = (nothing, h, sym no_lines)
 
 first_told : (o : Option Owner) (passed : ℕ) (kept taken : List ℕ) (told : Told) (more : List ℕ)
     → HasToldBy o passed kept taken told → AreFirstLines (taken ++ more) (told_text told)
-first_told None passed kept taken told more h = inl (ap told_text h.1 ∙ no_lines)
+first_told None passed kept taken told more h = inl (rw (h.1, no_lines) refl)
 first_told (Some owner) passed kept taken told more h =
     inr (
       owner,
@@ -109,14 +89,13 @@ first_told (Some owner) passed kept taken told more h =
       record {
         start = h.start;
         records = h.records;
-        rest = h.rest ++ more;
+        rest = kept ++ more;
         owner_is = h.owner_is;
-        reaches = longer_reached owner taken h.start h.records h.rest more h.reaches;
+        reaches = longer_reached owner taken h.start h.records kept more h.reaches;
         all_are = refl;
         weights_are = h.weights_are;
       },
-      ap (λ (head : Option Head). head_line head ++ records_text told.records) h.head_is
-          ∙ ap (λ (rs : List Record). owner_line owner true ++ records_text rs) h.told_is,
+      rw (h.head_is, h.told_is) refl,
     )
 
 -- these are first lines of the cell, whatever follows
@@ -124,5 +103,4 @@ pub first_given : (lines : JournalLines) (taken text more : List ℕ) → HasGiv
     → AreFirstLines (taken ++ more) text
 first_given lines taken text more h =
     let reader = lines.reader in
-    subst (AreFirstLines (taken ++ more)) (sym h.2)
-    (first_told reader.owner reader.passed reader.bytes.items taken h.0 more h.1)
+    rw h.2 (first_told reader.owner reader.passed reader.bytes.items taken h.0 more h.1)

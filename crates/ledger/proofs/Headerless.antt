@@ -1,6 +1,6 @@
 -- Bytes that begin with no header, whatever follows.
 use Rattle.std.proofs.Common.{◌≡◌, ◌≢◌, ℕ, ◌≤◌, List, [], ◌∷◌, ◌++◌, length, take}
-use Rattle.std.proofs.Common.{drop, refl, sym, ap, subst, ◌∙◌, arith, inl, inr, length-append}
+use Rattle.std.proofs.Common.{drop, refl, sym, ap, arith, inl, inr, length-append}
 use Rattle.std.proofs.lemmas.List.{take_at, take-append-le, take-append-drop, length-drop}
 use Rattle.records.specs.declared.owner.Owner.{Owner}
 use Rattle.records.specs.Layout.{header_of, old_header}
@@ -9,7 +9,7 @@ use Rattle.records.proofs.Apart.{header_size, old_header_size}
 use Rattle.ledger.specs.declared.ending.Ending.TheVariants.{Damaged}
 use Rattle.ledger.specs.declared.part.LastPart.{LastPart}
 use Rattle.ledger.specs.Cells.{HasNoOwner, IsHeaded}
-use Rattle.ledger.specs.Headless.{AreCut, BeginsHeader, EndsHeadless}
+use Rattle.ledger.specs.Headless.{AreCut, BeginsHeader}
 use Rattle.ledger.specs.Parts.{IsEmpty, TellsLast, nothing}
 use Rattle.ledger.proofs.ToldParts.{told_nothing}
 
@@ -19,9 +19,9 @@ module _ (bytes more : List ℕ) (long : 77 ≤ length bytes) where
       → bytes ≡ first ++ drop (length first) bytes
   begins first rest is fits =
       let n = length first in
-      sym (take-append-drop n bytes)
-      ∙ ap (λ (b : List ℕ). b ++ drop n bytes)
-      (sym (take-append-le n bytes more fits) ∙ ap (take n) is ∙ take_at first rest n refl)
+      let front : take n bytes ≡ first =
+      rw (← take-append-le n bytes more fits, is) (take_at first rest n refl) in
+      sym (rw front at (take-append-drop {A = ℕ} n bytes))
 
   headed : (owner : Owner) → IsHeaded owner (bytes ++ more) → IsHeaded owner bytes
   headed owner (inl (rest, is)) =
@@ -64,7 +64,7 @@ module _ (bytes more : List ℕ) (long : 77 ≤ length bytes) where
     inl refl,
     inr (
       never_headed none,
-      subst (EndsHeadless (bytes ++ more)) (sym at) (no_beginning, some_bytes, refl),
+      rw at (no_beginning, some_bytes, refl),
       told_nothing nothing last.part empty,
     ),
   )

@@ -1,6 +1,6 @@
 -- Whether bytes begin with a header, and whose it is.
 use Rattle.std.proofs.Common.{◌≡◌, ℕ, ◌+◌, ◌-◌, ◌<◌, ◌≤◌, List, [], ◌∷◌, ◌++◌, length, take, drop}
-use Rattle.std.proofs.Common.{get_or, refl, sym, ap, subst, ◌∙◌, arith, inl, inr, length-append}
+use Rattle.std.proofs.Common.{get_or, refl, sym, ap, ◌∙◌, arith, inl, inr, length-append}
 use Rattle.std.proofs.lemmas.List.{take_at, take-append-drop}
 use Rattle.std.proofs.lemmas.List.Elements.{All-get_or}
 use Rattle.std.specs.Int.{w64, to_be_bytes}
@@ -9,48 +9,13 @@ use Rattle.std.specs.Prelude.{slice_index}
 use Rattle.fed_types.specs.Sites.{CountFits, IsSiteNumber, IsWeight, Membership}
 use Rattle.records.specs.declared.owner.Owner.{Owner}
 use Rattle.records.specs.Numbers.{magic, old_magic}
-use Rattle.records.specs.Layout.{header_bytes, header_of, old_header}
-use Rattle.records.specs.Journals.{HasHeader, IsOfOwner, NamesOwner}
-use Rattle.records.proofs.Apart.{header_size, old_header_magic}
+use Rattle.records.specs.Layout.{header_bytes, header_of}
+use Rattle.records.specs.Journals.{HasHeader, IsOfOwner}
+use Rattle.records.proofs.Apart.{header_size, old_header_magic, header_count, header_weights}
 use Rattle.records.proofs.FoundParts.{old_whole, short_unnamed}
 use Rattle.ledger.specs.Cells.{IsHeaded}
 use Rattle.ledger.specs.inner.Named.{HasHeaderOf}
-
--- ---- what a header says
-
-header_count : (owner : Owner) (ws x : List ℕ) → get_or (header_of owner ws ++ x) 13 0 ≡ length ws
-unfolding header_of
-header_count owner ws x = refl
-
-header_after : (owner : Owner) (ws x : List ℕ) → drop 14 (header_of owner ws ++ x) ≡ ws ++ x
-unfolding header_of
-header_after owner ws x = refl
-
-header_owner : (owner : Owner) (ws x : List ℕ) → IsOfOwner owner (header_of owner ws ++ x)
-unfolding header_of
-header_owner owner ws x = (refl, refl)
-
-old_owner : (owner : Owner) (x : List ℕ) → IsOfOwner owner (old_header owner ++ x)
-unfolding old_header
-old_owner owner x = (refl, refl)
-
-pub headed_owner : (owner : Owner) (bytes : List ℕ) → IsHeaded owner bytes → IsOfOwner owner bytes
-headed_owner owner bytes (inl (rest, is)) = subst (IsOfOwner owner) (sym is) (old_owner owner rest)
-headed_owner owner bytes (inr (ws, rest, are, is)) =
-    subst (IsOfOwner owner) (sym is) (header_owner owner ws rest)
-
-header_names : (owner : Owner) (ws x : List ℕ) → NamesOwner (header_of owner ws ++ x)
-unfolding header_of
-header_names owner ws x = inr (omega arith, refl)
-
-old_names : (owner : Owner) (x : List ℕ) → NamesOwner (old_header owner ++ x)
-unfolding old_header
-old_names owner x = inl (omega arith, refl)
-
-pub headed_names : (owner : Owner) (bytes : List ℕ) → IsHeaded owner bytes → NamesOwner bytes
-headed_names owner bytes (inl (rest, is)) = subst NamesOwner (sym is) (old_names owner rest)
-headed_names owner bytes (inr (ws, rest, are, is)) =
-    subst NamesOwner (sym is) (header_names owner ws rest)
+use Rattle.records.proofs.OneReading.{headed_owner, headed_names}
 
 -- ---- a header of the second layout, by the count of its members
 
@@ -68,15 +33,15 @@ module _ (owner : Owner) (bytes : List ℕ) (n : ℕ) (count : n ≡ get_or byte
   their_weights ws x is =
       let size : n ≡ length ws = count ∙ ap (λ (b : List ℕ). get_or b 13 0) is
       ∙ header_count owner ws x in
-      ap (take (14 + n - 14)) (ap (drop 14) is ∙ header_after owner ws x)
+      ap (take (14 + n - 14)) (ap (drop 14) is ∙ header_weights owner ws x)
       ∙ take_at ws x (14 + n - 14) (omega (arith, size))
 
   pub fit : HasHeader owner bytes
       → CountFits (counted bytes n) × ¬ Contains {X = ℕ} (counted bytes n) 0
   fit (ws, x, are, is) =
       let e = their_weights ws x is in (
-        subst CountFits (sym e) are.0,
-        subst (λ (b : List ℕ). ¬ Contains {X = ℕ} b 0) (sym e) (no_zero ws are.1),
+        rw e are.0,
+        rw e (no_zero ws are.1),
       )
 
   pub too_short : length bytes < 14 + n → ¬ HasHeader owner bytes
@@ -97,9 +62,7 @@ module _ (owner : Owner) (bytes : List ℕ) (n : ℕ) (count : n ≡ get_or byte
 pub header_under : (owner : Owner) (m : Membership) → m.federation ≡ owner.members.federation
     → header_bytes (record { members = m; site = owner.site }) ≡ header_of owner m.weights
 unfolding header_of
-header_under owner m f =
-    ap (λ (x : ℕ). magic
-    ++ ((to_be_bytes w64 x ++ owner.site ∷ []) ++ (length m.weights ∷ m.weights))) f
+header_under owner m f = rw f refl
 
 module _ (owner : Owner) (bytes header ws : List ℕ) (is : header ≡ header_of owner ws) where
   pub size_of : length header ≡ 14 + length ws
@@ -107,9 +70,7 @@ module _ (owner : Owner) (bytes header ws : List ℕ) (is : header ≡ header_of
 
   pub begun : take (length header) bytes ≡ header
       → bytes ≡ header_of owner ws ++ drop (14 + length ws) bytes
-  begun e = sym (take-append-drop (length header) bytes)
-      ∙ ap (λ (b : List ℕ). b ++ drop (length header) bytes) (e ∙ is)
-      ∙ ap (λ (k : ℕ). header_of owner ws ++ drop k bytes) size_of
+  begun e = rw (e, is, header_size) at (sym (take-append-drop {A = ℕ} (length header) bytes))
 
   pub begins : (x : List ℕ) → bytes ≡ header_of owner ws ++ x → take (length header) bytes ≡ header
   begins x e = ap (take (length header)) e
@@ -124,7 +85,7 @@ too_few bytes short o site headed = short_unnamed bytes short (headed_names o by
 pub no_site : (bytes : List ℕ) → ¬ IsSiteNumber (slice_index bytes 12) → (o : Owner)
     → IsSiteNumber o.site → IsHeaded o bytes → ⊥
 no_site bytes bad o site headed =
-    bad (subst IsSiteNumber (sym (headed_owner o bytes headed).1) site)
+    bad (rw (headed_owner o bytes headed).1 site)
 
 -- owners of the same federation and site have the same headers
 same_header : (a b : Owner) (ws : List ℕ) → to_be_bytes w64 a.members.federation
@@ -140,13 +101,8 @@ of_nobody owner bytes its not_old not_new o site (inl (rest, is)) =
     not_old (ap (take 4) is ∙ old_header_magic o rest)
 of_nobody owner bytes its not_old not_new o site (inr (ws, rest, are, is)) =
     let other = headed_owner o bytes (inr (ws, rest, are, is)) in
-    not_new (
-      ws,
-      rest,
-      are,
-      is ∙ ap (λ (b : List ℕ). b ++ rest)
-          (same_header o owner ws (sym other.0 ∙ its.0) (sym other.1 ∙ its.1)),
-    )
+    let same = same_header o owner ws (sym other.0 ∙ its.0) (sym other.1 ∙ its.1) in
+    not_new (ws, rest, are, rw (← same) is)
 
 -- ---- a header that was found
 

@@ -3,14 +3,14 @@ use Rattle.std.proofs.Common.{◌≡◌, ◌+◌, ℕ, List, length, sym, ap, �
 use Rattle.std.proofs.lemmas.Nat.{from_be_bytes-to_be_bytes_8}
 use Rattle.std.specs.Int.{w64, from_be_bytes}
 use Rattle.records.specs.declared.owner.Owner.{Owner}
-use Rattle.records.specs.Journals.{IsEnd, Reaches}
+use Rattle.records.specs.Journals.{IsEnd}
 use Rattle.ledger.specs.declared.ending.Ending.{Ending}
 use Rattle.ledger.specs.declared.ending.Ending.TheVariants.{Whole, Torn, Damaged}
 use Rattle.ledger.specs.declared.read.Found.{Found}
 use Rattle.ledger.specs.Cells.{HasNoOwner, Said, IsSaid, EndsWith, EndsAt}
 use Rattle.ledger.specs.inner.Found.{IsAllFound}
 use Rattle.ledger.specs.inner.Named.{IsHeadedBy}
-use Rattle.ledger.proofs.Headers.{headed_owner}
+use Rattle.records.proofs.OneReading.{headed_owner}
 use Rattle.ledger.proofs.SameOwners.{reaches_of, end_of}
 use Rattle.ledger.proofs.TextEnds.{text_headed}
 

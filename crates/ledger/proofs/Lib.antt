@@ -7,7 +7,6 @@ pub mod CellContents
 pub mod Openings
 pub mod Notes
 pub mod VersionLines
-pub mod NextRecords
 pub mod ToldParts
 pub mod GivenLines
 pub mod Headerless

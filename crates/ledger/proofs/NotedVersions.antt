@@ -1,5 +1,5 @@
 -- The lines of versions that were noted piece by piece.
-use Rattle.std.proofs.Common.{◌≡◌, ℕ, List, [], ◌++◌, refl, sym, ap, subst, ◌∙◌, inl, inr}
+use Rattle.std.proofs.Common.{◌≡◌, ℕ, List, [], ◌++◌, refl, inl, inr}
 use Rattle.std.specs.Prelude.{string_bytes, IfOk, Result, Ok, Err}
 use Rattle.std.specs.declared.alloc.AllocError.{AllocError}
 use Rattle.records.specs.declared.record.Record.{Record}
@@ -26,20 +26,9 @@ text_of_all : (wanted : VersionFilter) (bytes : List ℕ) (told : Told) (ending 
     → IsLedgerText wanted bytes ending text
 unfolding ledger_text
 text_of_all wanted bytes told ending text (inl (said, is, e, t)) lines =
-    inl (
-      said,
-      is,
-      e,
-      lines ∙ ap (λ (x : Told). versions_text wanted x.records ++ ending_line ending) t
-          ∙ ap (λ (x : Ending). versions_text wanted said.records ++ ending_line x) (sym e),
-    )
+    inl (said, is, e, rw (lines, t, ← e) refl)
 text_of_all wanted bytes told ending text (inr (none, ends, t)) lines =
-    inr (
-      none,
-      ends,
-      lines ∙ ap (λ (x : Told). versions_text wanted x.records ++ ending_line ending) t
-          ∙ ap (λ (x : List ℕ). x ++ ending_line ending) (no_versions wanted),
-    )
+    inr (none, ends, rw (lines, t, no_versions wanted) refl)
 
 -- the lines after the last part
 module _ (wanted : VersionFilter) (lines : LedgerLines) (last : LastPart) where
@@ -50,7 +39,7 @@ module _ (wanted : VersionFilter) (lines : LedgerLines) (last : LastPart) where
       → (taken bytes : List ℕ) → (noted : HasNoted lines taken) → TellsLast bytes noted.0 last
       → IsLedgerText wanted bytes it.ending (string_bytes it.text)
   noted_last it e text taken bytes noted tells =
-      subst (λ (ending : Ending). IsLedgerText wanted bytes ending (string_bytes it.text)) (sym e)
+      rw e
       (text_of_all wanted bytes (and_part noted.0 last.part) last.ending (string_bytes it.text)
       tells.1 (text noted.0.records noted.2))
 

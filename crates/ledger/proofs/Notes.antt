@@ -8,7 +8,7 @@ use Rattle.records.specs.declared.record.Record.{Record}
 use Rattle.records.specs.SlotStates.{deposit_of, known_of, vote_of}
 use Rattle.records.proofs.SlotStates.{deposit-push, known-push, vote-push}
 use Rattle.slot_table.specs.Listings.{Listing, listed}
-use Rattle.slot_table.specs.Rows.{row_at, row_or, row_of, IsWith}
+use Rattle.slot_table.specs.Rows.{row_at, row_or, IsWith}
 use Rattle.ledger.specs.declared.row.Row.{Row}
 use Rattle.ledger.specs.inner.Rows.{empty_row, noted, row_after, row_from, Represents}
 use Rattle.ledger.specs.Versions.{with_slot, slots_of}
@@ -39,8 +39,7 @@ pub one_more : (old new : Listing Row) (r : Record)
     → IsWith old.rows new.rows r.slot (row_after old.rows r)
     → (records : List Record) → Represents old records → Represents new (records ++ r ∷ [])
 one_more old new r is put records stands = record {
-  slots = is ∙ ap (λ (slots : List SlotName). listed slots r.slot) stands.slots
-      ∙ sym (slots_push records r);
+  slots = rw (is, stands.slots) (sym (slots_push records r));
   says = λ slot. ap (row_or empty_row) (put slot) ∙ go slot (same_slot r.slot slot) refl
       ∙ sym (row_push records r slot);
 }
@@ -51,6 +50,5 @@ one_more old new r is put records stands = record {
         ≡ noted (row_from records slot) (cond t (Some r.body) None)
     go slot true e =
         let same : r.slot ≡ slot = (same_slot_decides r.slot slot).0 e in
-        ap (λ (s : SlotName). noted (row_of empty_row old.rows s) (Some r.body)) same
-        ∙ ap (λ (before : Row). noted before (Some r.body)) (stands.says slot)
+        rw (same, stands.says slot) refl
     go slot false e = stands.says slot

@@ -1,10 +1,9 @@
 -- What opening a cell gives, by its contents.
 use Rattle.std.proofs.Common.{◌≡◌, ◌≢◌, ℕ, List, [], length, take, Ok, Err, refl, sym, ap}
-use Rattle.std.proofs.Common.{subst, ◌∙◌, arith, inl, inr, length-append}
+use Rattle.std.proofs.Common.{◌∙◌, arith, inl, inr, length-append}
 use Rattle.std.proofs.lemmas.List.{append-nil, take_at}
 use Rattle.records.specs.declared.fault.JournalFault.TheVariants as faults
 use Rattle.records.specs.declared.owner.Owner.{Owner}
-use Rattle.records.specs.declared.record.Record.{Record}
 use Rattle.records.specs.Starts.{Start, text_bytes}
 use Rattle.records.specs.Journals.{IsEnd, IsDamagedAt, DecodesTo}
 use Rattle.ledger.specs.declared.contents.Contents.{Contents}
@@ -25,7 +24,7 @@ pub opens : (bytes : List ℕ) (contents : Contents) → IsCell bytes contents
     → ((place : ℕ) → contents.ending ≢ Damaged place)
     → DecodesTo contents.owner bytes (Ok contents.records.items)
 opens bytes contents is whole =
-    subst (λ (rs : List Record). DecodesTo contents.owner bytes (Ok rs)) (sym is.records_are)
+    rw is.records_are
     (says_all contents.owner bytes is.start is.records is.rest is.reaches
     (end_of contents.owner bytes is.start is.rest contents.ending is.ends whole)
     (weights_of is.start contents.owner.members.weights contents.names_weights is.weights_are))
@@ -42,8 +41,7 @@ pub damaged : (bytes : List ℕ) (contents : Contents) (place : ℕ) → IsCell 
 damaged bytes contents place is at =
     let owner = contents.owner in
     let text = text_bytes owner is.start is.records in
-    let ends : EndsWith owner bytes is.start is.rest (Damaged place) =
-    subst (EndsWith owner bytes is.start is.rest) at is.ends in
+    let ends : EndsWith owner bytes is.start is.rest (Damaged place) = rw at at is.ends in
     let size : place ≡ length text = omega (
       arith,
       ends.1,
@@ -58,7 +56,7 @@ damaged bytes contents place is at =
         damage = ends.0;
         place_is = size;
       })),
-      subst (λ (rs : List Record). DecodesTo owner (take place bytes) (Ok rs)) (sym is.records_are)
+      rw is.records_are
           (says_all owner (take place bytes) is.start is.records []
           (record {
             is_start = is.reaches.is_start;

@@ -7,7 +7,7 @@ use Rattle.records.specs.declared.owner.Owner.{Owner}
 use Rattle.records.specs.declared.record.Record.{Record}
 use Rattle.records.specs.Layout.{encoded, all_encoded, header_of}
 use Rattle.records.specs.Records.{IsRecord, AreRecords}
-use Rattle.records.specs.Starts.{Start, Old, New, Carried, layout_after}
+use Rattle.records.specs.Starts.{Start, Old, layout_after}
 use Rattle.records.specs.Journals.{length_field, IsTornRecord, IsTornHeader, IsHeaderPart, IsEnd}
 use Rattle.records.proofs.Prefixes.{said_size, length_is, record_size}
 use Rattle.records.proofs.Apart.{header_field}
@@ -20,15 +20,6 @@ pub record Left (l : Layout) (bytes : List ℕ) (records : List Record) (rest : 
   pub are : AreRecords more
   pub bytes_are : drop len bytes ≡ all_encoded l more ++ rest
   pub sum : len + length (all_encoded l more) ≡ length (all_encoded l records)
-
-pub left_all : (l : Layout) (bytes : List ℕ) (records : List Record) (rest : List ℕ)
-    → AreRecords records → bytes ≡ all_encoded l records ++ rest → Left l bytes records rest 0
-left_all l bytes records rest are is = record {
-  more = records;
-  are = are;
-  bytes_are = is;
-  sum = omega arith;
-}
 
 -- a size is found exactly where a record comes next
 no_size : (rest x : List ℕ) (size : ℕ) → Stops rest → x ≡ rest → IsSizeAt x (Some size) → ⊥
@@ -62,15 +53,13 @@ left_next l bytes records rest len size stops h at = by h.more h.are h.bytes_are
     by [] are is sum = absurd (no_size rest (drop len bytes) size stops is at)
     by (r ∷ more) are is sum =
         let x = all_encoded l more ++ rest in
-        let e : drop len bytes ≡ encoded l r ++ x = is
-        ∙ append_assoc (encoded l r) (all_encoded l more) rest in
-        let long : length (encoded l r) ≡ size = encoded_size l r x are.0
-        ∙ sym (at.2 ∙ ap (λ (b : List ℕ). 2 + length_field b) e) in
+        let e : drop len bytes ≡ encoded l r ++ x = rw append_assoc at is in
+        let long : length (encoded l r) ≡ size =
+        rw (at.2, e) (encoded_size l r x are.0) in
         record {
           more = more;
           are = are.1;
-          bytes_are = sym (drop-drop size len bytes) ∙ ap (drop size) e
-              ∙ drop_at (encoded l r) x size long;
+          bytes_are = rw (← drop-drop size len bytes, e) (drop_at (encoded l r) x size long);
           sum = omega (arith, long, sum, length-append (encoded l r) (all_encoded l more));
         }
 
@@ -86,7 +75,7 @@ left_end l bytes records rest len h stops = by h.more h.are h.bytes_are h.sum
     by [] are is sum = omega (arith, sum)
     by (r ∷ more) are is sum =
         absurd (some_size l r (all_encoded l more ++ rest) (drop len bytes) are.0
-        (is ∙ append_assoc (encoded l r) (all_encoded l more) rest) stops)
+        (rw append_assoc at is) stops)
 
 -- ---- what no record is
 
@@ -109,8 +98,7 @@ part_stops owner (a ∷ b ∷ x) (ws, rest, are, some, is) =
 torn_header_stops : (owner : Owner) (start : Start) (x : List ℕ) → IsTornHeader owner start x
     → Stops x
 torn_header_stops owner Old x h = part_stops owner x h
-torn_header_stops owner (New ws) x h = absurd h
-torn_header_stops owner (Carried rs ws) x h = absurd h
+torn_header_stops owner _ x h = absurd h
 
 pub end_stops : (owner : Owner) (start : Start) (x : List ℕ) → IsEnd owner start x → Stops x
 end_stops owner start x (inl none) = inl (omega (arith, ap length none))

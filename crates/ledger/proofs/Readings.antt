@@ -1,23 +1,19 @@
 -- What reading a journal says of a cell that begins with a header.
-use Rattle.std.proofs.Common.{◌≡◌, ℕ, List, length, take, Ok, Err}
-use Rattle.std.proofs.Common.{Option, Result, refl, sym, ap, subst, ◌∙◌, arith, inl, inr}
-use Rattle.std.proofs.Common.{length-append}
+use Rattle.std.proofs.Common.{◌≡◌, ℕ, List, length, Ok, Err, Option, Result, refl, ap}
+use Rattle.std.proofs.Common.{arith, inl, inr, length-append}
 use Rattle.std.specs.Prelude.{IfOk, IsErr}
 use Rattle.std.specs.declared.alloc.AllocError.{AllocError}
 use Rattle.fed_types.specs.Faults.{IsOrFault}
 use Rattle.records.specs.declared.fault.JournalFault.{JournalFault}
-use Rattle.records.specs.declared.fault.JournalFault.TheVariants as faults
 use Rattle.records.specs.declared.owner.Owner.{Owner}
 use Rattle.records.specs.declared.record.Record.{Record}
 use Rattle.records.specs.Answers.{IsReading}
 use Rattle.records.specs.Starts.{Start, HasWeights, records_of, text_bytes}
-use Rattle.records.specs.Journals.{HasNoHeader, Reaches, IsEnd, HasEnd, IsDamagedAt, DecodesTo}
-use Rattle.records.proofs.Apart.{old_header_magic}
-use Rattle.records.proofs.OneReading.{new_not_headed}
-use Rattle.records.proofs.Texts.{magics_differ}
+use Rattle.records.specs.Journals.{Reaches, IsEnd, HasEnd, IsDamagedAt, DecodesTo}
+use Rattle.records.proofs.OneReading.{new_not_headed, headed_owner, no_header_headed}
 use Rattle.ledger.specs.Cells.{IsHeaded}
 use Rattle.ledger.specs.inner.Found.{HasDamage, IsDamageIn, IsDamageFound}
-use Rattle.ledger.proofs.Headers.{headed_owner, headed_names}
+use Rattle.records.specs.declared.fault.JournalFault.TheVariants as faults
 
 pub says_end : (owner : Owner) (bytes : List ℕ) (records : List Record) → IsHeaded owner bytes
     → DecodesTo owner bytes (Ok records) → HasEnd owner bytes
@@ -28,16 +24,10 @@ says_end owner bytes records headed (inr j) = j.text
 
 -- ---- faults
 
-pub no_header : (owner : Owner) (bytes : List ℕ) → IsHeaded owner bytes
-    → HasNoHeader owner bytes → ⊥
-no_header owner bytes headed (new, inl other) = other (headed_names owner bytes headed)
-no_header owner bytes (inl (rest, is)) (new, inr (m, its, none)) =
-    magics_differ (sym m ∙ ap (take 4) is ∙ old_header_magic owner rest)
-no_header owner bytes (inr has) (new, inr (m, its, none)) = none has
-
 damaged : (owner : Owner) (bytes : List ℕ) (place : ℕ) → IsHeaded owner bytes
     → IsDamagedAt owner place bytes → HasDamage owner bytes place
-damaged owner bytes place headed (inl (zero, none)) = absurd (no_header owner bytes headed none)
+damaged owner bytes place headed (inl (zero, none)) =
+    absurd (no_header_headed owner bytes none headed)
 damaged owner bytes place headed (inr d) = record {
   start = d.start;
   records = d.records;
@@ -65,9 +55,9 @@ found_damage owner bytes faults.OtherFederation r headed said e =
 found_damage owner bytes faults.OtherSite r headed said e =
     absurd (said.2 (headed_owner owner bytes headed).1)
 found_damage owner bytes (faults.Damaged place) r headed said e =
-    subst (λ r. IfOk r (IsDamageFound owner bytes)) (sym e) (damaged owner bytes place headed said)
+    rw e (damaged owner bytes place headed said)
 found_damage owner bytes faults.OtherWeights r headed said e =
-    subst (λ r. IfOk r (IsDamageFound owner bytes)) (sym e) said.text
+    rw e said.text
 found_damage owner bytes faults.Memory r headed said e = memory r (IsDamageFound owner bytes) e
 
 -- ---- records

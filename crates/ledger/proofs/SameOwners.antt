@@ -1,13 +1,13 @@
 -- What bytes say of records is the same for owners of one federation and site, whatever the
 -- weights.
-use Rattle.std.proofs.Common.{◌≡◌, ℕ, List, [], ◌∷◌, ◌++◌, length, sym, ap, ◌∙◌, inl, inr}
+use Rattle.std.proofs.Common.{◌≡◌, ℕ, List, [], ◌∷◌, ◌++◌, length, sym, ◌∙◌, inl, inr}
 use Rattle.std.specs.Int.{w64, to_be_bytes}
 use Rattle.records.specs.declared.owner.Owner.{Owner}
 use Rattle.records.specs.declared.record.Record.{Record}
 use Rattle.records.specs.declared.layout.Layout.TheVariants.{First}
 use Rattle.records.specs.Numbers.{magic, old_magic}
 use Rattle.records.specs.Layout.{all_encoded, header_of, old_header}
-use Rattle.records.specs.Starts.{Start, Old, New, Carried, start_bytes, layout_after}
+use Rattle.records.specs.Starts.{Start, Old, New, Carried, start_bytes}
 use Rattle.records.specs.Journals.{HasHeader, IsHeaderPart, Reaches, IsTornHeader, IsEnd}
 use Rattle.records.specs.Journals.{IsNoHeader, IsDamage}
 
@@ -31,21 +31,18 @@ module _ (a b : Owner) (f : a.members.federation ≡ b.members.federation) (s : 
   reaches_of bytes start rs rest r = record {
     is_start = r.is_start;
     are_records = r.are_records;
-    bytes_are = r.bytes_are
-        ∙ ap (λ (x : List ℕ). (x ++ all_encoded (layout_after start) rs) ++ rest) (same_start start);
+    bytes_are = rw (← same_start start) r.bytes_are;
   }
 
   part_of : (x : List ℕ) → IsHeaderPart a x → IsHeaderPart b x
   part_of x (ws, rest, are, some, is) = (ws, rest, are, some, is ∙ same_header ws)
 
   has_of : (x : List ℕ) → HasHeader a x → HasHeader b x
-  has_of x (ws, rest, are, is) =
-      (ws, rest, are, is ∙ ap (λ (h : List ℕ). h ++ rest) (same_header ws))
+  has_of x (ws, rest, are, is) = (ws, rest, are, rw (← same_header ws) is)
 
   torn_of : (start : Start) (x : List ℕ) → IsTornHeader a start x → IsTornHeader b start x
   torn_of Old x h = part_of x h
-  torn_of (New ws) x h = absurd h
-  torn_of (Carried rs ws) x h = absurd h
+  torn_of _ x h = absurd h
 
   pub end_of : (start : Start) (x : List ℕ) → IsEnd a start x → IsEnd b start x
   end_of start x (inl none) = inl none
@@ -56,8 +53,7 @@ no_header_of : (a b : Owner) → a.members.federation ≡ b.members.federation �
     → (start : Start) (x : List ℕ) → IsNoHeader a start x → IsNoHeader b start x
 no_header_of a b f s Old x h =
     (λ p. h.0 (part_of b a (sym f) (sym s) x p), λ p. h.1 (has_of b a (sym f) (sym s) x p))
-no_header_of a b f s (New ws) x h = h
-no_header_of a b f s (Carried rs ws) x h = h
+no_header_of a b f s _ x h = h
 
 pub damage_of : (a b : Owner) → a.members.federation ≡ b.members.federation → a.site ≡ b.site
     → (start : Start) (x : List ℕ) → IsDamage a start x → IsDamage b start x

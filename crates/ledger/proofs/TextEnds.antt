@@ -1,7 +1,6 @@
 -- Where the text of a cell ends, and which members it names.
-use Rattle.std.proofs.Common.{◌≡◌, ℕ, ◌+◌, ◌≤◌, List, ◌++◌, length, drop, true, false}
-use Rattle.std.proofs.Common.{refl, sym, ap, subst, ◌∙◌, arith, inl, inr, append_assoc}
-use Rattle.std.proofs.Common.{length-append}
+use Rattle.std.proofs.Common.{◌≡◌, ℕ, ◌+◌, ◌≤◌, List, ◌++◌, length, drop, true, false, refl, sym}
+use Rattle.std.proofs.Common.{ap, ◌∙◌, arith, inl, inr, append_assoc, length-append}
 use Rattle.std.proofs.lemmas.List.{drop_at, drop-drop, length-drop}
 use Rattle.fed_types.specs.Sites.{Membership}
 use Rattle.records.specs.declared.layout.Layout.{Layout}
@@ -19,7 +18,8 @@ use Rattle.ledger.specs.Cells.{IsHeaded, NamesWeights}
 use Rattle.ledger.specs.inner.Found.{IsAllAfter, IsAllFound}
 use Rattle.ledger.specs.inner.Named.{IsHeadedBy, HasHeaderOf}
 use Rattle.ledger.specs.inner.Sizes.{Stops}
-use Rattle.ledger.proofs.Headers.{has_of, headed_names}
+use Rattle.ledger.proofs.Headers.{has_of}
+use Rattle.records.proofs.OneReading.{headed_names, text_headed as headed}
 use Rattle.ledger.proofs.Passages.{end_stops, header_stops}
 
 -- ---- the parts of texts
@@ -48,14 +48,7 @@ new_has owner bytes ws rs rest r =
 -- a cell begins with a header
 pub text_headed : (owner : Owner) (bytes : List ℕ) (start : Start) (rs : List Record)
     (rest : List ℕ) → Reaches owner bytes start rs rest → IsHeaded owner bytes
-text_headed owner bytes Old rs rest r =
-    inl (all_encoded First rs ++ rest, in_parts owner bytes Old rs rest r)
-text_headed owner bytes (New ws) rs rest r = inr (new_has owner bytes ws rs rest r)
-text_headed owner bytes (Carried os ws) rs rest r =
-    inl (
-      all_encoded First os ++ (header_of owner ws ++ (all_encoded Second rs ++ rest)),
-      in_parts owner bytes (Carried os ws) rs rest r,
-    )
+text_headed owner bytes start rs rest r = rw r.bytes_are (headed owner start rs rest r.is_start)
 
 pub headed_long : (owner : Owner) (bytes : List ℕ) → IsHeaded owner bytes → 13 ≤ length bytes
 headed_long owner bytes headed = elim (headed_names owner bytes headed) [
@@ -108,9 +101,9 @@ module _ (owner : Owner) (bytes : List ℕ) (at size : ℕ) (m : Membership) (fo
       let n = 14 + length m.weights in
       let same = same_weights owner m.weights ws (drop n (drop at bytes)) x
       (sym h.bytes_are ∙ is) in
-      let behind : drop (at + size) bytes ≡ x = ap (λ (k : ℕ). drop (at + k) bytes) is_size
-      ∙ sym (drop-drop n at bytes) ∙ same.1 in (
-        (ap (λ (it : Membership). it.weights) after.members_are ∙ same.0, after.named),
+      let behind : drop (at + size) bytes ≡ x =
+      rw (is_size, ← drop-drop n at bytes) same.1 in (
+        (rw after.members_are same.0, after.named),
         after.end_is rs rest are behind stops,
       )
 
@@ -120,16 +113,13 @@ pub first_found : (owner : Owner) (bytes : List ℕ) (size : ℕ) (m : Membershi
     → HasHeaderOf owner m bytes → size ≡ 14 + length m.weights → IsAllAfter bytes m size found
     → IsAllFound owner bytes found
 first_found owner bytes size m found h is_size after = record {
-  federation = ap (λ (it : Membership). it.federation) after.members_are ∙ h.federation;
+  federation = rw after.members_are h.federation;
   in_range = after.in_range;
   all = by;
 }
   where
-    zero_and : 0 + size ≡ size
-    zero_and = omega arith
-
     here : IsAllAfter bytes m (0 + size) found
-    here = subst (λ (k : ℕ). IsAllAfter bytes m k found) (sym zero_and) after
+    here = let zero : 0 + size ≡ size = omega arith in rw zero after
 
     not_old : (x : List ℕ) → bytes ≡ old_header owner ++ x → ⊥
     not_old x is = old_or_new owner m.weights x (drop (14 + length m.weights) bytes)
@@ -140,14 +130,12 @@ first_found owner bytes size m found h is_size after = record {
         → NamesWeights start found.members.weights found.named
         × (found.end + length rest ≡ length bytes)
     by Old rs rest r ends =
-        absurd (not_old (all_encoded First rs ++ rest) (in_parts owner bytes Old rs rest r))
+        absurd (not_old _ (in_parts owner bytes Old rs rest r))
     by (New ws) rs rest r ends =
         after_header owner bytes 0 size m found h is_size here ws rs rest r.are_records
         (end_stops owner (New ws) rest ends) (in_parts owner bytes (New ws) rs rest r)
     by (Carried os ws) rs rest r ends =
-        absurd (not_old (all_encoded First os
-        ++ (header_of owner ws ++ (all_encoded Second rs ++ rest)))
-        (in_parts owner bytes (Carried os ws) rs rest r))
+        absurd (not_old _ (in_parts owner bytes (Carried os ws) rs rest r))
 
 -- ---- records of the first layout, and perhaps a header after them
 
@@ -157,8 +145,8 @@ module _ (owner : Owner) (bytes : List ℕ) (pass : ℕ) (passes : Passes (drop 
   after_old rs x are stops is =
       let e : drop 13 bytes ≡ all_encoded First rs ++ x = ap (drop 13) is
       ∙ drop_at (old_header owner) (all_encoded First rs ++ x) 13 (old_header_size owner) in
-      sym (drop-drop pass 13 bytes) ∙ ap (drop pass) e
-      ∙ drop_at (all_encoded First rs) x pass (sym (passes First rs x are e stops))
+      rw (← drop-drop pass 13 bytes, e)
+      (drop_at (all_encoded First rs) x pass (sym (passes First rs x are e stops)))
 
   old_sum : (rs : List Record) (x : List ℕ) → AreRecords rs → Stops x
       → bytes ≡ old_header owner ++ (all_encoded First rs ++ x)
@@ -180,7 +168,7 @@ module _ (owner : Owner) (bytes : List ℕ) (pass : ℕ) (passes : Passes (drop 
       → HasHeaderOf owner m (drop (13 + pass) bytes) → size ≡ 14 + length m.weights
       → IsAllAfter bytes m (13 + pass + size) found → IsAllFound owner bytes found
   second_found size m found not_new h is_size after = record {
-    federation = ap (λ (it : Membership). it.federation) after.members_are ∙ h.federation;
+    federation = rw after.members_are h.federation;
     in_range = after.in_range;
     all = by;
   }
@@ -194,7 +182,7 @@ module _ (owner : Owner) (bytes : List ℕ) (pass : ℕ) (passes : Passes (drop 
           after_old rs rest r.are_records (end_stops owner Old rest ends)
           (in_parts owner bytes Old rs rest r) in
           absurd ((end_is_past owner Old rest ends).no_second
-          (subst (HasHeader owner) here (has_of owner m (drop (13 + pass) bytes) h)))
+          (rw here at (has_of owner m (drop (13 + pass) bytes) h)))
       by (New ws) rs rest r ends = absurd (not_new (new_has owner bytes ws rs rest r))
       by (Carried os ws) rs rest r ends =
           let x = all_encoded Second rs ++ rest in

@@ -20,15 +20,13 @@ module _ {X : Type 0} (f : X → List ℕ) where
   text_next [] (suc n) = refl
   text_next (x ∷ xs) zero = append-nil (f x)
   text_next (x ∷ xs) (suc n) =
-      ap (λ rest. f x ++ rest) (text_next xs n)
-      ∙ sym (append_assoc (f x) (flat_map f (take n xs)) (text_if f (slice_get xs n)))
+      rw (text_next xs n)
+      (sym (append_assoc (f x) (flat_map f (take n xs)) (text_if f (slice_get xs n))))
 
 same_lines : (f g : SlotName → List ℕ) → ((slot : SlotName) → f slot ≡ g slot)
     → (slots : List SlotName) → flat_map f slots ≡ flat_map g slots
 same_lines f g same [] = refl
-same_lines f g same (slot ∷ slots) =
-    ap (λ line. line ++ flat_map f slots) (same slot)
-    ∙ ap (λ rest. g slot ++ rest) (same_lines f g same slots)
+same_lines f g same (slot ∷ slots) = rw (same slot, same_lines f g same slots) refl
 
 -- the lines of what is kept are those of the records
 pub lines_are : (wanted : VersionFilter) (versions : Listing Row) (records : List Record)

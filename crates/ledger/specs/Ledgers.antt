@@ -3,7 +3,7 @@
 use Rattle.std.specs.Prelude.{ℕ, Bool, not, ◌||◌, ◌&&◌, if◌then◌else◌, List, [], ◌∷◌, ◌++◌, codes}
 use Rattle.std.specs.List.{flat_map}
 use Rattle.fed_types.specs.Slots.{SlotName}
-use Rattle.words.specs.Written.{slot_text, bag_text}
+use Rattle.tokens.specs.Written.{slot_text, bag_text}
 use Rattle.records.specs.declared.record.Record.{Record}
 use Rattle.ledger.specs.declared.version_filter.VersionFilter.{VersionFilter}
 use Rattle.ledger.specs.declared.standing.Standing.{Standing}

@@ -2,7 +2,7 @@
 use Rattle.std.specs.Prelude.{ℕ, Bool, if◌then◌else◌, List, [], ◌∷◌, ◌++◌, codes}
 use Rattle.std.specs.List.{flat_map}
 use Rattle.std.specs.Fmt.{decimal}
-use Rattle.words.specs.Written.{slot_text, bag_text, ballot_text, vote_text}
+use Rattle.tokens.specs.Written.{slot_text, bag_text, ballot_text, vote_text}
 use Rattle.records.specs.declared.entry.Entry.{Entry}
 use Rattle.records.specs.declared.entry.Entry.TheVariants as entry
 use Rattle.records.specs.declared.entry.Entry.TheVariants.{Deposit, Round, Promise, Known}

@@ -5,7 +5,6 @@ use Rattle.std.specs.Option.{option_or}
 use Rattle.records.specs.declared.owner.Owner.{Owner}
 use Rattle.records.specs.declared.record.Record.{Record}
 use Rattle.records.specs.Journals.{Reaches}
-use Rattle.records.specs.Layout.{header_bytes}
 use Rattle.records.specs.Starts.{Start, records_of}
 use Rattle.ledger.specs.declared.cell_reader.CellReader.{CellReader}
 use Rattle.ledger.specs.declared.ending.Ending.{Ending}
@@ -51,16 +50,14 @@ IsWhole bytes told ending =
 -- ---- between two pieces
 
 -- The bytes that were taken begin with a header that names the weights, and records, and these were
--- told; what follows them is kept, after a header.
+-- told; what follows them is kept.
 pub record IsTold (owner : Owner) (passed : ℕ) (kept taken : List ℕ) (told : Told) : Type 0 where
   pub start : Start
   pub records : List Record
-  pub rest : List ℕ
   pub owner_is : IsOwner owner
-  pub reaches : Reaches owner taken start records rest
+  pub reaches : Reaches owner taken start records kept
   pub weights_are : NamesWeights start owner.members.weights true
-  pub kept_is : kept ≡ header_bytes owner ++ rest
-  pub passed_is : passed + length rest ≡ length taken
+  pub passed_is : passed + length kept ≡ length taken
   pub head_is : told.head ≡ Some (record { owner = owner; names_weights = true })
   pub told_is : told.records ≡ records_of start records
 

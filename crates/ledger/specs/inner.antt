@@ -2,5 +2,5 @@
 pub mod Sizes
 pub mod Named
 pub mod Found
-pub mod Batches
+pub mod Steps
 pub mod Rows

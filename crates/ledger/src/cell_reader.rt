@@ -3,7 +3,7 @@
 
 ghost use Rattle.std.specs.Prelude.{◌++◌, ℕ, List, [], IfOk};
 ghost use Rattle.ledger.specs.Parts.{Told, nothing, HasTold, Tells, TellsLast};
-ghost use Rattle.ledger.specs.inner.Batches.{IsStep};
+ghost use Rattle.ledger.specs.inner.Steps.{IsStep};
 
 use crate::part::{LastPart, Part, Parts};
 use crate::steps::{Step, begin, go_on, last_part, whole_part};
@@ -20,8 +20,7 @@ pub struct CellReader {
     owner: Option<Owner>,
     // How many bytes of the cell were read as headers and records.
     passed: usize,
-    // All bytes, while no such header was found; then the owner's header, and what follows the last
-    // record that was given.
+    // All bytes, while no such header was found; then what follows the last record that was given.
     bytes: Vec<u8>,
     // They are read when there are this many.
     wanted: usize,

@@ -2,7 +2,7 @@
 
 ghost use Rattle.std.specs.Prelude.{IfOk, ◌≡◌, ◌++◌, string_bytes};
 ghost use Rattle.std.specs.List.{flat_map};
-ghost use Rattle.words.specs.Pushes.{Pushes};
+ghost use Rattle.tokens.specs.Pushes.{Pushes};
 ghost use Rattle.ledger.specs.Lines.{ending_line, owner_line, records_text};
 ghost use Rattle.ledger.specs.Lines.{weight_word, weight_words};
 ghost use Rattle.ledger.specs.Pieces.{head_line, part_text};

@@ -10,7 +10,6 @@
 //! ```
 #![tactic(auto)]
 
-mod batch;
 mod cell_reader;
 mod cell_text;
 mod contents;

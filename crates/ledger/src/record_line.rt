@@ -1,12 +1,12 @@
 //! The line of a record.
 
 ghost use Rattle.std.specs.Prelude.{◌≡◌};
-ghost use Rattle.words.specs.Pushes.{Pushes};
+ghost use Rattle.tokens.specs.Pushes.{Pushes};
 ghost use Rattle.ledger.specs.Lines.{kind_text, entry_text, record_line};
 
 use records::{Entry, Record};
 use std::alloc::{AllocError, Global};
-use words::{push_bag, push_ballot, push_slot, push_vote};
+use tokens::{push_bag, push_ballot, push_slot, push_vote};
 
 // What a record is.
 fn kind_text(entry: &Entry) -> &'static str

@@ -1,20 +1,18 @@
 //! What the bytes of a cell say next.
 
-ghost use Rattle.std.specs.Prelude.{◌≡◌, ◌≤◌, ◌+◌, ◌++◌, ℕ, List, IfOk, IfSome, length, drop};
-ghost use Rattle.records.specs.Layout.{header_bytes};
+ghost use Rattle.std.specs.Prelude.{◌≡◌, ◌≤◌, ◌+◌, ℕ, List, IfOk, IfSome, length, drop};
 ghost use Rattle.ledger.specs.Cells.{HasNoOwner};
 ghost use Rattle.ledger.specs.Parts.{Told, nothing, IsTold, TellsLast};
-ghost use Rattle.ledger.specs.inner.Batches.{text_end, KeepsFirst, KeepsNext, ending_after};
-ghost use Rattle.ledger.specs.inner.Batches.{batch_size, IsEndOfBatch, IsNextPart, IsPartOf, IsStep};
+ghost use Rattle.ledger.specs.inner.Steps.{text_end, KeepsFirst, KeepsNext, ending_after};
+ghost use Rattle.ledger.specs.inner.Steps.{IsLastPart, IsNextPart, IsPartOf, IsStep};
 
-use crate::batch::{Batch, header_size, read_batch};
 use crate::contents::Contents;
 use crate::ending::Ending;
 use crate::headless::headless_ending;
 use crate::part::{Head, LastPart, Part};
 use crate::read::{ending_at, read_contents};
 use fed_types::MOST_MEMBERS;
-use records::{FRONT, Owner, header};
+use records::{FRONT, MoreRecords, Owner, read_more};
 use std::alloc::{AllocError, Global};
 
 /// A part, and what is kept after it.
@@ -24,7 +22,7 @@ pub(crate) struct Kept {
     pub owner: Owner,
     /// How many bytes of the cell were read as headers and records.
     pub passed: usize,
-    /// The owner's header, and what follows the last record.
+    /// What follows the last record.
     pub bytes: Vec<u8>,
 }
 
@@ -36,15 +34,6 @@ pub(crate) enum Step {
     Next(Kept),
     /// The last part, whatever follows.
     End(LastPart),
-}
-
-// The owner's header, and these bytes.
-fn after_header(alloc: Global, owner: &Owner, rest: &[u8]) -> Result<Vec<u8>, AllocError>
-    ensures { IfOk result (λ bytes. bytes.items ≡ header_bytes owner.now ++ rest.now) }
-{
-    let mut bytes = header(alloc, owner)?;
-    bytes.extend_from_slice(rest)?;
-    Ok(bytes)
 }
 
 // Where headers and records end in a cell of `len` bytes with this ending, unless it is damaged.
@@ -93,7 +82,7 @@ fn begin_with(
     ensures { IfOk result (KeepsFirst contents end (drop end bytes.now)) }
 {
     let owner = contents.owner;
-    let bytes = after_header(alloc, &owner, &bytes[end..])?;
+    let bytes = bytes[end..].to_vec(alloc)?;
     Ok(Kept {
         part: part_of(contents),
         owner,
@@ -137,44 +126,39 @@ pub(crate) fn begin(alloc: Global, bytes: &[u8]) -> Result<Step, AllocError>
     }
 }
 
-// How a cell ends after a batch.
-fn batch_ending(owner: &Owner, passed: usize, batch: &Batch, len: usize) -> Option<Ending>
-    requires { batch.now.end ≤ len }
-    ensures { IfSome result (λ ending. ending ≡ ending_after owner.now passed batch.now len) }
+// How a cell ends after these records, before which so many of its bytes were passed.
+fn ending_after(passed: usize, more: &MoreRecords, len: usize) -> Option<Ending>
+    requires { more.now.end ≤ len }
+    ensures { IfSome result (λ ending. ending ≡ ending_after passed more.now len) }
 {
-    if !batch.is_damaged {
-        return Some(ending_at(batch.end, len));
+    if !more.is_damaged {
+        return Some(ending_at(more.end, len));
     }
-    let place = passed.checked_add(batch.end.saturating_sub(header_size(owner)))?;
+    let place = passed.checked_add(more.end)?;
     Some(Ending::Damaged(place))
 }
 
-// The part that says the records of a batch.
-fn next_part(batch: Batch) -> Part
-    ensures { IsNextPart batch result }
+// The part that says these records.
+fn next_part(more: MoreRecords) -> Part
+    ensures { IsNextPart more result }
 {
     Part {
         head: None,
-        records: batch.records,
+        records: more.records,
     }
 }
 
-// The last part of a cell, after a batch.
-fn batch_part(
-    owner: &Owner,
-    passed: usize,
-    batch: Batch,
-    len: usize,
-) -> Result<LastPart, AllocError>
-    requires { batch.end ≤ len }
-    ensures { IfOk result (IsEndOfBatch batch (ending_after owner.now passed batch len)) }
+// The last part of a cell, which says these records.
+fn last_after(passed: usize, more: MoreRecords, len: usize) -> Result<LastPart, AllocError>
+    requires { more.end ≤ len }
+    ensures { IfOk result (IsLastPart more (ending_after passed more len)) }
 {
     // No cell has so many bytes that their count doesn't fit a `usize`.
-    let Some(ending) = batch_ending(owner, passed, &batch, len) else {
+    let Some(ending) = ending_after(passed, &more, len) else {
         return Err(AllocError);
     };
     Ok(LastPart {
-        part: next_part(batch),
+        part: next_part(more),
         ending,
     })
 }
@@ -189,29 +173,29 @@ pub(crate) fn last_part(
     ensures { IfOk result (λ last. (taken : List ℕ) (told : Told)
         → IsTold owner.now passed bytes.now taken told → TellsLast taken told last) }
 {
-    let batch = read_batch(alloc, owner, bytes)?;
-    batch_part(owner, passed, batch, bytes.len())
+    let more = read_more(alloc, bytes)?;
+    last_after(passed, more, bytes.len())
 }
 
-// What is kept after a batch that ends at this place of the bytes.
-fn after_batch(
+// What is kept after these records, with which the bytes begin.
+fn keep_after(
     alloc: Global,
     owner: &Owner,
     passed: usize,
-    batch: Batch,
+    more: MoreRecords,
     bytes: &[u8],
 ) -> Result<Kept, AllocError>
-    requires { batch.end ≤ length bytes.now }
-    ensures { IfOk result (KeepsNext owner.now batch (passed + batch_size owner.now batch)
-        (drop batch.end bytes.now)) }
+    requires { more.end ≤ length bytes.now }
+    ensures { IfOk result (KeepsNext owner.now more (passed + more.end)
+        (drop more.end bytes.now)) }
 {
     // No cell has so many bytes that their count doesn't fit a `usize`.
-    let Some(passed) = passed.checked_add(batch.end.saturating_sub(header_size(owner))) else {
+    let Some(passed) = passed.checked_add(more.end) else {
         return Err(AllocError);
     };
-    let bytes = after_header(alloc, owner, &bytes[batch.end..])?;
+    let bytes = bytes[more.end..].to_vec(alloc)?;
     Ok(Kept {
-        part: next_part(batch),
+        part: next_part(more),
         owner: *owner,
         passed,
         bytes,
@@ -228,11 +212,11 @@ pub(crate) fn go_on(
     ensures { IfOk result (λ step. (taken : List ℕ) (told : Told)
         → IsTold owner.now passed bytes.now taken told → IsStep taken told step) }
 {
-    let batch = read_batch(alloc, owner, bytes)?;
-    if batch.is_damaged {
-        return Ok(Step::End(batch_part(owner, passed, batch, bytes.len())?));
+    let more = read_more(alloc, bytes)?;
+    if more.is_damaged {
+        return Ok(Step::End(last_after(passed, more, bytes.len())?));
     }
-    Ok(Step::Next(after_batch(alloc, owner, passed, batch, bytes)?))
+    Ok(Step::Next(keep_after(alloc, owner, passed, more, bytes)?))
 }
 
 /// All that a cell says, or bytes that begin with no header.

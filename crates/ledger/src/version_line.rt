@@ -2,7 +2,7 @@
 
 ghost use Rattle.std.specs.Prelude.{◌≡◌, ◌∷◌, ◌++◌, List, IfOk, string_bytes};
 ghost use Rattle.std.specs.List.{flat_map};
-ghost use Rattle.words.specs.Pushes.{Pushes};
+ghost use Rattle.tokens.specs.Pushes.{Pushes};
 ghost use Rattle.records.specs.declared.record.Record.{Record};
 ghost use Rattle.ledger.specs.Lines.{ending_line};
 ghost use Rattle.ledger.specs.Ledgers.{word_of, named_bag, version_line, listed_line};
@@ -16,7 +16,7 @@ use crate::version_filter::VersionFilter;
 use crate::versions::{Versions, slot_at, standing_in};
 use fed_types::Slot;
 use std::alloc::{AllocError, Global};
-use words::{push_bag, push_slot};
+use tokens::{push_bag, push_slot};
 
 // What is said of a version.
 fn word_of(standing: Standing) -> &'static str

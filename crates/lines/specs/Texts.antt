@@ -5,7 +5,7 @@ use Rattle.std.specs.List.{flat_map, join_with_byte}
 use Rattle.std.specs.Fmt.{decimal}
 use Rattle.hex.specs.Hex.{encode_lower}
 use Rattle.fed_types.specs.Slots.{SlotName}
-use Rattle.words.specs.Escapes.{escaped_text}
+use Rattle.tokens.specs.Escapes.{escaped_text}
 use Rattle.bag_check.specs.Fault as bag_faults
 use Rattle.site.specs.declared.answer.Reply.{Reply}
 use Rattle.site.specs.declared.answer.Reply.TheVariants as replies

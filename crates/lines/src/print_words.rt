@@ -1,7 +1,7 @@
 ghost use Rattle.std.specs.Prelude.{◌≡◌, [], ◌∷◌};
 ghost use Rattle.std.specs.List.{join_with_byte};
 ghost use Rattle.hex.specs.Hex.{encode_lower};
-ghost use Rattle.words.specs.Pushes.{Pushes};
+ghost use Rattle.tokens.specs.Pushes.{Pushes};
 ghost use Rattle.lines.specs.Texts.{words_of, slot_words, bag_word, reply_words};
 ghost use Rattle.lines.specs.Texts.{fault_words, reason_word};
 
@@ -11,7 +11,7 @@ use crate::sent_bytes::SentBytes;
 use fed_types::Slot;
 use site::{Reply, SiteFault};
 use std::alloc::{AllocError, Global};
-use words::push_escaped;
+use tokens::push_escaped;
 
 /// Appends the words of a line, one space between them.
 pub(crate) fn push_words(

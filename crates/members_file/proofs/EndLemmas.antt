@@ -1,18 +1,14 @@
 -- Where the lines of the sites end, and which lines a text has.
-use Rattle.std.proofs.Common.{◌≡◌, ℕ, ◌&&◌, Bool, true, false, eqb, List, [], ◌∷◌, ◌++◌}
-use Rattle.std.proofs.Common.{length, None, refl, sym, ap, ◌∙◌, subst, arith}
-use Rattle.std.proofs.Common.{append_assoc}
-use Rattle.std.specs.Str.Lines.{lines}
-use Rattle.std.proofs.lemmas.Bool.{eqb-true}
-use Rattle.words.specs.Words.{words_of}
+use Rattle.std.proofs.Common.{◌≡◌, ℕ, true, eqb, List, [], ◌∷◌, ◌++◌, length, None, refl, sym, ◌∙◌}
+use Rattle.std.proofs.Common.{subst, arith, append_assoc}
+use Rattle.std.proofs.lemmas.Bool.{eqb-true, and_parts}
+use Rattle.tokens.specs.Words.{words_of}
 use Rattle.members_file.specs.declared.listed_site.ListedSite.{ListedSite}
-use Rattle.members_file.specs.Files.{AreTogether, AreSites}
-use Rattle.members_file.specs.Files.{are_blank}
+use Rattle.members_file.specs.Files.{AreTogether, AreSites, are_blank}
 use Rattle.members_file.specs.Lines.{site_in}
 use Rattle.members_file.specs.inner.Sites.{HasSites, next_site}
 use Rattle.members_file.proofs.TogetherLemmas.{AreTogether-front}
-use Rattle.members_file.proofs.SiteLemmas.{AreSites-no_more}
-use Rattle.members_file.proofs.SiteLemmas.{AreSitesFrom-same, Parts-from}
+use Rattle.members_file.proofs.SiteLemmas.{AreSites-no_more, AreSitesFrom-same, Parts-from}
 
 -- a list that is parted twice
 data Parted (a b x y : List (List ℕ)) : Type 0 where
@@ -27,28 +23,19 @@ parted [] b [] y is = same refl is
 parted [] b (line ∷ x) y is = shorter line x refl is
 parted (line ∷ a) b [] y is = longer line a refl (sym is)
 parted (l ∷ a) b (m ∷ x) y is =
-    let head : l ≡ m = cc in
-    let tail : a ++ b ≡ x ++ y = cc in
-    go head (parted a b x y tail)
+    go (cc is) (parted a b x y (cc is))
   where
     go : l ≡ m → Parted a b x y → Parted (l ∷ a) b (m ∷ x) y
-    go head (same front back) =
-        same (ap (λ (ls : List (List ℕ)). l ∷ ls) front ∙ ap (λ (n : List ℕ). n ∷ x) head) back
-    go head (shorter line between front back) =
-        shorter line between
-        (ap (λ (n : List ℕ). n ∷ x) (sym head) ∙ ap (λ (ls : List (List ℕ)). l ∷ ls) front) back
-    go head (longer line between front back) =
-        longer line between
-        (ap (λ (ls : List (List ℕ)). l ∷ ls) front
-        ∙ ap (λ (n : List ℕ). n ∷ (x ++ line ∷ between)) head) back
+    go head (same front back) = same (cc) back
+    go head (shorter line between front back) = shorter line between (cc) back
+    go head (longer line between front back) = longer line between (cc) back
 
 -- the sites of the first lines, and of one line more
 one_line_more : (front back : List (List ℕ)) (line : List ℕ) (sites : List ListedSite)
     → AreSites (front ++ line ∷ back) sites
     → (more : List ListedSite) × AreSites (front ++ line ∷ []) more
 one_line_more front back line sites are =
-    let all = subst (λ (ls : List (List ℕ)). AreSites ls sites)
-    (sym (append_assoc front (line ∷ []) back)) are in
+    let all = rw (← append_assoc front (line ∷ []) back) at are in
     let parts = Parts-from 1 (front ++ line ∷ []) back sites all.0 in (
       parts.first,
       (
@@ -64,24 +51,21 @@ pub record Agree (a b : List (List ℕ)) (p q : List ListedSite) (r u : List (Li
   pub rest : r ≡ u
 
 -- the sites' lines end in one place
-pub HasSites-agree : (all : List (List ℕ)) (p q : List ListedSite) (r u : List (List ℕ))
-    → (s : HasSites all p r) → (t : HasSites all q u) → Agree s.named t.named p q r u
-HasSites-agree all p q r u s t = go (parted s.named r t.named u (sym s.is ∙ t.is))
+pub HasSites-agree : {all : List (List ℕ)} {p q : List ListedSite} {r u : List (List ℕ)}
+    (s : HasSites all p r) (t : HasSites all q u) → Agree s.named t.named p q r u
+HasSites-agree {all} {p} {q} {r} {u} s t = go (parted s.named r t.named u (sym s.is ∙ t.is))
   where
     go : Parted s.named r t.named u → Agree s.named t.named p q r u
     go (same named rest) = record {
       named = named;
-      sites = AreSitesFrom-same 1 t.named p q
-          (subst (λ (ls : List (List ℕ)). AreSites ls p) named s.sites).0 t.sites.0;
+      sites = AreSitesFrom-same 1 t.named p q (rw named at s.sites).0 t.sites.0;
       rest = rest;
     }
     go (shorter line between named rest) =
-        let more = one_line_more s.named between line q
-        (subst (λ (ls : List (List ℕ)). AreSites ls q) named t.sites) in
+        let more = one_line_more s.named between line q (rw named at t.sites) in
         absurd (s.no_more line (between ++ u) more.0 rest more.1)
     go (longer line between named rest) =
-        let more = one_line_more t.named between line p
-        (subst (λ (ls : List (List ℕ)). AreSites ls p) named s.sites) in
+        let more = one_line_more t.named between line p (rw named at s.sites) in
         absurd (t.no_more line (between ++ r) more.0 rest more.1)
 
 -- a line without words is of no site
@@ -95,25 +79,6 @@ pub blank_ends : (named rest : List (List ℕ)) (sites : List ListedSite) → Ar
     → are_blank rest ≡ true → (line : List ℕ) (later : List (List ℕ)) (more : List ListedSite)
     → rest ≡ line ∷ later → ¬ AreSites (named ++ line ∷ []) more
 blank_ends named rest sites are blank line later more is =
-    let whole : are_blank (line ∷ later) ≡ true =
-    subst (λ (ls : List (List ℕ)). are_blank ls ≡ true) is blank in
-    let none = and_first (eqb (length (words_of line)) 0) (are_blank later) whole in
+    let none = and_parts (eqb (length (words_of line)) 0) (are_blank later) (rw is at blank) in
     AreSites-no_more named sites line more are
-    (no_words (words_of line) (eqb-true (length (words_of line)) 0 none) sites)
-  where
-    and_first : (first rest : Bool) → (first && rest) ≡ true → first ≡ true
-    and_first true rest both = refl
-    and_first false rest both = absurd (cc both)
-
--- ---- the lines of a text
-
--- the first line, and the lines after it, are those of the text
-pub record SameLines (a b : List ℕ) (later others : List (List ℕ)) : Type 0 where
-  pub first : a ≡ b
-  pub rest : later ≡ others
-
-pub same_lines : (text a b : List ℕ) (later others : List (List ℕ)) → lines text ≡ a ∷ later
-    → lines text ≡ b ∷ others → SameLines a b later others
-same_lines text a b later others is also =
-    let both : a ∷ later ≡ b ∷ others = sym is ∙ also in
-    record { first = cc both; rest = cc both }
+    (no_words (words_of line) (eqb-true (length (words_of line)) 0 none.0) sites)

@@ -1,20 +1,17 @@
 -- The halves of a new federation's number.
-use Rattle.std.proofs.Common.{not, ◌&&◌, ◌≡◌, ℕ, zero, suc, ◌<◌, true, List, ◌++◌, take}
-use Rattle.std.proofs.Common.{drop, length, refl, sym, ap, ◌∙◌, arith, get_or, ◌||◌, ◌/◌, Bool}
-use Rattle.std.proofs.Common.{inl, inr}
-use Rattle.std.proofs.lemmas.Bool.Decides.{nat_tests}
-use Rattle.std.specs.Prelude.{All, ◌==◌, ◌^◌}
+use Rattle.std.proofs.Common.{◌≡◌, ℕ, zero, suc, ◌<◌, true, List, ◌++◌, take, drop, length, refl}
+use Rattle.std.proofs.Common.{ap, ◌∙◌, arith, get_or, ◌/◌, inl, inr}
+use Rattle.std.specs.Prelude.{All, ◌^◌}
 use Rattle.std.specs.Int.{w32, w64, byte_at, bytes_high_first, to_be_bytes, from_be_bytes}
-use Rattle.std.proofs.lemmas.Bool.{cases_lt}
+use Rattle.std.proofs.lemmas.Bool.{cases_lt, eq-eqb}
 use Rattle.std.proofs.lemmas.List.{take_at, drop_at, length-append, length-take-le, get_or_past}
-use Rattle.std.proofs.lemmas.List.Elements.{All-nil, All-cons, All-append, All-take}
-use Rattle.std.proofs.lemmas.List.Elements.{All-get_or}
+use Rattle.std.proofs.lemmas.List.Elements.{All-nil, All-cons, All-append, All-take, All-get_or}
 use Rattle.std.proofs.lemmas.Nat.{mod_below, be_bytes_8}
 use Rattle.sha2.specs.Sha256.{digest_bytes, final_hash, initial_hash_256, sha256}
 use Rattle.sha2.proofs.Facts256.{length-sha256}
-use Rattle.members_file.specs.Files.{MembersFile, names_addresses, weights_of}
+use Rattle.members_file.specs.Files.{MembersFile, weights_of}
 use Rattle.members_file.specs.Numbers.{AreFourBytes, new_number, upper_half, lower_half, weighed}
-use Rattle.members_file.specs.Numbers.{is_listed, old_number}
+use Rattle.members_file.specs.Numbers.{is_listed}
 
 abbrev IsByte : ℕ → Type 0
 IsByte b = b < 256
@@ -77,18 +74,9 @@ pub lower_is : (random weights : List ℕ) → AreFourBytes random
 lower_is random weights four =
     ap (drop 4) (halves random weights four) ∙ drop_at random (lower_half random weights) 4 four.0
 
-same_numbers : (n m : ℕ) → n ≡ m → (n == m) ≡ true
-same_numbers n m is = grind (arith, nat_tests)
-
-same_number : (n m : ℕ) (t : Bool) → n ≡ m → ((n == m) || t) ≡ true
-same_number n m t is = ap (λ (b : Bool). b || t) (same_numbers n m is)
-
 pub new_is_listed : (random : List ℕ) (file : MembersFile) → AreFourBytes random
     → file.federation ≡ new_number random (weights_of file.sites) → is_listed file ≡ true
 unfolding is_listed
 new_is_listed random file four is =
-    let weights = weights_of file.sites in
-    same_number file.federation (new_number (upper_half file.federation) weights)
-    (not (names_addresses file.sites) && file.federation == old_number file.sites)
-    (is ∙ ap (λ (upper : List ℕ). new_number upper weights)
-    (sym (ap upper_half is ∙ upper_is random weights four)))
+    let upper : upper_half file.federation ≡ random = rw is (upper_is random _ four) in
+    rw (upper, eq-eqb file.federation (new_number random (weights_of file.sites)) is)

@@ -1,53 +1,35 @@
 -- Each text is one members file, or has one first line at fault, and never both.
-use Rattle.std.proofs.Common.{◌≡◌, ℕ, ◌+◌, ◌≤◌, List, ◌∷◌, ◌++◌}
-use Rattle.std.proofs.Common.{[], Bool, true, false, Option, None, ◌⊎◌, inl, inr}
-use Rattle.std.proofs.Common.{length, Some, refl, sym, ap, ◌∙◌, subst, arith}
+use Rattle.std.proofs.Common.{◌≡◌, ℕ, ◌+◌, List, ◌∷◌, ◌++◌, [], Bool, true, false, Option, None}
+use Rattle.std.proofs.Common.{◌⊎◌, inl, inr, length, Some, refl, sym, ap, ◌∙◌, subst, arith}
 use Rattle.std.specs.Str.Lines.{lines}
-use Rattle.std.proofs.lemmas.Bool.{false≢true}
-use Rattle.std.proofs.lemmas.Option.{same_Some}
-use Rattle.words.specs.Words.{words_of}
+use Rattle.tokens.specs.Words.{words_of}
 use Rattle.members_file.specs.declared.listed_site.ListedSite.{ListedSite}
-use Rattle.members_file.specs.Files.{HasFault, IsTextOf}
-use Rattle.members_file.specs.Files.{MembersFile, are_blank, named_by, no_federation, no_site}
+use Rattle.members_file.specs.Files.{HasFault, IsTextOf, MembersFile, are_blank, named_by}
+use Rattle.members_file.specs.Files.{no_federation, no_site}
 use Rattle.members_file.specs.Lines.{federation_in}
 use Rattle.members_file.specs.inner.Sites.{BeginsSites, HasSites, next_site}
 use Rattle.members_file.proofs.SiteLemmas.{AreSitesFrom-length}
 use Rattle.members_file.proofs.ReadLemmas.{BeginsSites-none, BeginsSites-more, HasSites-from}
 use Rattle.members_file.proofs.ReadLemmas.{HasSites-end, fault_of_none, fault_of_first, fault_after}
-use Rattle.members_file.proofs.EndLemmas.{HasSites-agree, blank_ends, same_lines}
+use Rattle.members_file.proofs.EndLemmas.{HasSites-agree, blank_ends}
 
 -- the sites of a members file
-sites_of : (text : List ℕ) (file : MembersFile) → (t : IsTextOf text file)
+sites_of : {text : List ℕ} {file : MembersFile} (t : IsTextOf text file)
     → HasSites (t.named ++ t.rest) file.sites t.rest
-sites_of text file t = record {
+sites_of {file = file} t = record {
   named = t.named;
   is = refl;
   sites = t.sites;
   no_more = blank_ends t.named t.rest file.sites t.sites t.blank;
 }
 
-one_federation : (text a b : List ℕ) (later others : List (List ℕ)) (f g : ℕ)
-    → lines text ≡ a ∷ later → lines text ≡ b ∷ others
-    → federation_in (words_of a) ≡ Some f → federation_in (words_of b) ≡ Some g → f ≡ g
-one_federation text a b later others f g is also says likewise =
-    let same = same_lines text a b later others is also in
-    same_Some f g (sym says
-    ∙ ap (λ (line : List ℕ). federation_in (words_of line)) same.first ∙ likewise)
-
 pub one_file : (text : List ℕ) (a b : MembersFile) → IsTextOf text a → IsTextOf text b → a ≡ b
 one_file text a b t u =
-    let same =
-    same_lines text t.first u.first (t.named ++ t.rest) (u.named ++ u.rest) t.is u.is in
-    let others =
-    subst (λ (ls : List (List ℕ)). HasSites ls b.sites u.rest) (sym same.rest)
-    (sites_of text b u) in
-    let agree =
-    HasSites-agree (t.named ++ t.rest) a.sites b.sites t.rest u.rest (sites_of text a t) others in
-    let federation =
-    one_federation text t.first u.first (t.named ++ t.rest) (u.named ++ u.rest) a.federation
-    b.federation t.is u.is t.federation u.federation in
-    ap (λ (f : ℕ). named_by f a.sites) federation
-    ∙ ap (λ (sites : List ListedSite). named_by b.federation sites) agree.sites
+    let rest : t.named ++ t.rest ≡ u.named ++ u.rest = cc (t.is, u.is) in
+    let agree = HasSites-agree (sites_of t) (subst (λ ls. HasSites ls b.sites u.rest) (sym rest)
+    (sites_of u)) in
+    let federation : a.federation ≡ b.federation = cc (t.is, u.is, t.federation, u.federation) in
+    λ i. named_by (federation i) (agree.sites i)
 
 pub one_fault : (text : List ℕ) (m n : ℕ) → HasFault text m → HasFault text n → m ≡ n
 one_fault _ _ n (no_federation text m none at) (no_federation _ _ also likewise) =
@@ -59,41 +41,24 @@ one_fault _ _ n (no_site text m f first named rest sites is says are no_more no_
     (no_federation _ _ none likewise) = absurd (none first (named ++ rest) f is says)
 one_fault _ _ _ (no_site text m f first named rest sites is says are no_more no_end at)
     (no_site _ n g other lines_of left others also tells likewise no_other no_stop place) =
-    let same = same_lines text first other (named ++ rest) (lines_of ++ left) is also in
     let here : HasSites (named ++ rest) sites rest =
     record { named = named; is = refl; sites = are; no_more = no_more } in
     let there : HasSites (named ++ rest) others left =
-    record { named = lines_of; is = same.rest; sites = likewise; no_more = no_other } in
-    let agree = HasSites-agree (named ++ rest) sites others rest left here there in
-    at ∙ ap (λ (ls : List (List ℕ)). length ls + 2) agree.named ∙ sym place
+    record { named = lines_of; is = cc (is, also); sites = likewise; no_more = no_other } in
+    rw (at, (HasSites-agree here there).named) (sym place)
 
 pub never_both : (text : List ℕ) (file : MembersFile) (n : ℕ) → IsTextOf text file
     → ¬ HasFault text n
 never_both _ file _ t (no_federation text n none at) =
     none t.first (t.named ++ t.rest) file.federation t.is t.federation
 never_both _ file _ t (no_site text n f first named rest sites is says are no_more no_end at) =
-    let same = same_lines text first t.first (named ++ rest) (t.named ++ t.rest) is t.is in
     let here : HasSites (named ++ rest) sites rest =
     record { named = named; is = refl; sites = are; no_more = no_more } in
-    let there : HasSites (named ++ rest) file.sites t.rest =
-    record {
-      named = t.named;
-      is = same.rest;
-      sites = t.sites;
-      no_more = blank_ends t.named t.rest file.sites t.sites t.blank;
-    } in
-    let agree = HasSites-agree (named ++ rest) sites file.sites rest t.rest here there in
-    let some : 1 ≤ length named =
-    omega (
-      arith,
-      t.some,
-      AreSitesFrom-length 1 t.named file.sites t.sites.0,
-      ap (λ (ls : List (List ℕ)). length ls) agree.named,
-    ) in
-    no_end (
-      some,
-      ap (λ (ls : List (List ℕ)). are_blank ls) agree.rest ∙ t.blank,
-    )
+    let same : named ++ rest ≡ t.named ++ t.rest = cc (is, t.is) in
+    let agree = HasSites-agree here (subst (λ ls. HasSites ls file.sites t.rest) (sym same)
+    (sites_of t)) in
+    let many = AreSitesFrom-length 1 named sites are.0 in
+    no_end (omega (arith, t.some, ap length agree.sites), rw agree.rest t.blank)
 
 -- ---- each text is one or the other
 
@@ -101,19 +66,16 @@ never_both _ file _ t (no_site text n f first named rest sites is says are no_mo
 all_sites : (all : List (List ℕ)) (sites : List ListedSite) (rest : List (List ℕ))
     → BeginsSites all sites rest
     → (said : List ListedSite) × (left : List (List ℕ)) × HasSites all said left
-all_sites all sites [] begins = (sites, [], HasSites-end all sites [] begins refl)
+all_sites all sites [] begins = (sites, [], HasSites-end begins refl)
 all_sites all sites (line ∷ later) begins =
     go (next_site sites (words_of line)) refl
-    (λ site is.
-    all_sites all (sites ++ site ∷ []) later
-    (BeginsSites-more all sites (line ∷ later) line later site begins refl is))
+    (λ site is. all_sites all (sites ++ site ∷ []) later (BeginsSites-more begins refl is))
   where
     go : (next : Option ListedSite) → next_site sites (words_of line) ≡ next
         → ((site : ListedSite) → next_site sites (words_of line) ≡ Some site
         → (said : List ListedSite) × (left : List (List ℕ)) × HasSites all said left)
         → (said : List ListedSite) × (left : List (List ℕ)) × HasSites all said left
-    go None is later_sites =
-        (sites, line ∷ later, HasSites-from all sites (line ∷ later) line later begins refl is)
+    go None is later_sites = (sites, line ∷ later, HasSites-from begins refl is)
     go (Some site) is later_sites = later_sites site is
 
 -- a members file, or a line at fault
@@ -132,7 +94,7 @@ after_first text first later f is says =
         inr (
           length sites + 2,
           fault_after text first later rest f sites is says has
-              (λ ends. false≢true (sym isnt ∙ ends.1)),
+              (λ ends. cc (isnt, ends.1)),
         )
     go [] rest has true blank =
         inr (2, fault_after text first later rest f [] is says has (λ ends. omega (arith, ends.0)))
@@ -143,7 +105,7 @@ after_first text first later f is says =
             first = first;
             named = has.named;
             rest = rest;
-            is = is ∙ ap (λ (ls : List (List ℕ)). first ∷ ls) has.is;
+            is = cc (is, has.is);
             federation = says;
             sites = has.sites;
             some = omega arith;

@@ -1,25 +1,22 @@
 -- Lines that are read one after another: the sites, and what is at fault.
-use Rattle.std.proofs.Common.{◌≡◌, ℕ, ◌+◌, ◌≤◌, true, List, [], ◌∷◌, ◌++◌}
-use Rattle.std.proofs.Common.{length, Option, Some, None, Err, refl, sym, ap, ◌∙◌, subst, arith}
-use Rattle.std.proofs.Common.{append_assoc}
+use Rattle.std.proofs.Common.{◌≡◌, ℕ, ◌+◌, ◌≤◌, true, List, [], ◌∷◌, ◌++◌, length, Option, Some}
+use Rattle.std.proofs.Common.{None, Err, refl, arith, append_assoc}
 use Rattle.std.specs.List.{Contains}
 use Rattle.std.specs.Option.{ok_or}
 use Rattle.std.specs.Str.Lines.{lines}
 use Rattle.std.proofs.lemmas.List.{length-map}
 use Rattle.std.proofs.lemmas.List.Elements.{All-contains, All-map}
 use Rattle.fed_types.specs.Sites.{CountFits, IsWeight}
-use Rattle.words.specs.Words.{words_of}
+use Rattle.tokens.specs.Words.{words_of}
 use Rattle.members_file.specs.declared.listed_site.ListedSite.{ListedSite}
 use Rattle.members_file.specs.declared.members_fault.MembersFault.{MembersFault}
-use Rattle.members_file.specs.Files.{AreListed, HasFault}
-use Rattle.members_file.specs.Files.{are_blank, no_federation, no_site, weights_of}
+use Rattle.members_file.specs.Files.{AreListed, HasFault, are_blank, no_federation, no_site}
+use Rattle.members_file.specs.Files.{weights_of}
 use Rattle.members_file.specs.Limits.{most_sites}
 use Rattle.members_file.specs.Lines.{federation_in}
 use Rattle.members_file.specs.inner.Sites.{BeginsSites, HasSites, next_site}
 use Rattle.members_file.proofs.SiteLemmas.{AreSites-more, AreSites-no_more, AreSitesFrom-length}
-use Rattle.members_file.proofs.SiteLemmas.{AreSitesFrom-most, AreSitesFrom-places}
-use Rattle.members_file.proofs.SiteLemmas.{AreSitesFrom-weights}
-use Rattle.members_file.proofs.EndLemmas.{same_lines}
+use Rattle.members_file.proofs.SiteLemmas.{AreSitesFrom-most, AreSitesFrom-ranges}
 
 -- no line is read
 pub BeginsSites-none : (all : List (List ℕ)) → BeginsSites all [] all
@@ -30,77 +27,68 @@ BeginsSites-none all = record {
 }
 
 -- the next line is of the next site
-pub BeginsSites-more : (all : List (List ℕ)) (sites : List ListedSite) (rest : List (List ℕ))
-    (line : List ℕ) (later : List (List ℕ)) (site : ListedSite) → BeginsSites all sites rest
-    → rest ≡ line ∷ later → next_site sites (words_of line) ≡ Some site
-    → BeginsSites all (sites ++ site ∷ []) later
-BeginsSites-more all sites rest line later site begins next is = record {
+pub BeginsSites-more : {all rest later : List (List ℕ)} {sites : List ListedSite} {line : List ℕ}
+    {site : ListedSite} → BeginsSites all sites rest → rest ≡ line ∷ later
+    → next_site sites (words_of line) ≡ Some site → BeginsSites all (sites ++ site ∷ []) later
+BeginsSites-more {sites = sites} {line} {site} begins next is = record {
   named = begins.named ++ line ∷ [];
-  is = begins.is ∙ ap (λ (ls : List (List ℕ)). begins.named ++ ls) next
-      ∙ sym (append_assoc begins.named (line ∷ []) later);
+  is = rw (append_assoc, ← next) begins.is;
   sites = AreSites-more begins.named sites line site begins.sites is;
 }
 
 -- the next line isn't
-pub HasSites-from : (all : List (List ℕ)) (sites : List ListedSite) (rest : List (List ℕ))
-    (line : List ℕ) (later : List (List ℕ)) → BeginsSites all sites rest
-    → rest ≡ line ∷ later → next_site sites (words_of line) ≡ None → HasSites all sites rest
-HasSites-from all sites rest line later begins next is = record {
+pub HasSites-from : {all rest later : List (List ℕ)} {sites : List ListedSite} {line : List ℕ}
+    → BeginsSites all sites rest → rest ≡ line ∷ later → next_site sites (words_of line) ≡ None
+    → HasSites all sites rest
+HasSites-from {sites = sites} {line} begins next is = record {
   named = begins.named;
   is = begins.is;
   sites = begins.sites;
   no_more = λ other more_lines more also.
-      let lines_are : line ∷ later ≡ other ∷ more_lines = sym next ∙ also in
-      let same : line ≡ other = cc in
-      AreSites-no_more begins.named sites other more begins.sites
-      (subst (λ (l : List ℕ). next_site sites (words_of l) ≡ None) same is);
+      let same : line ≡ other = cc (next, also) in
+      AreSites-no_more begins.named sites other more begins.sites (rw (← same) is);
 }
 
 -- there is none
-pub HasSites-end : (all : List (List ℕ)) (sites : List ListedSite) (rest : List (List ℕ))
+pub HasSites-end : {all rest : List (List ℕ)} {sites : List ListedSite}
     → BeginsSites all sites rest → rest ≡ [] → HasSites all sites rest
-HasSites-end all sites rest begins none = record {
+HasSites-end begins none = record {
   named = begins.named;
   is = begins.is;
   sites = begins.sites;
-  no_more = λ other more_lines more also.
-      let lines_are : [] ≡ other ∷ more_lines = sym none ∙ also in
-      absurd (cc lines_are);
+  no_more = λ other more_lines more also. absurd (cc (none, also));
 }
 
 -- ---- all that is read
 
 -- no more sites than can be
-pub HasSites-most : (all : List (List ℕ)) (sites : List ListedSite) (rest : List (List ℕ))
-    → HasSites all sites rest → length sites ≤ most_sites
-HasSites-most all sites rest has =
+HasSites-most : {all rest : List (List ℕ)} {sites : List ListedSite} → HasSites all sites rest
+    → length sites ≤ most_sites
+HasSites-most {sites = sites} has =
     omega (arith, AreSitesFrom-most 1 has.named sites has.sites.0 (omega arith))
 
 -- what is true of one site or more
-pub AreListed-read : (all : List (List ℕ)) (sites : List ListedSite) (rest : List (List ℕ))
+pub AreListed-read : {all rest : List (List ℕ)} {sites : List ListedSite}
     → HasSites all sites rest → 1 ≤ length sites → AreListed sites
-AreListed-read all sites rest has some = record {
+AreListed-read {sites = sites} has some = record {
   some = some;
-  most = HasSites-most all sites rest has;
-  places = AreSitesFrom-places 1 has.named sites has.sites.0;
-  weights = AreSitesFrom-weights 1 has.named sites has.sites.0;
+  most = HasSites-most has;
+  places = AreSitesFrom-ranges (λ n s range. range.place) 1 has.named sites has.sites.0;
+  weights = AreSitesFrom-ranges (λ n s range. range.weight) 1 has.named sites has.sites.0;
   together = has.sites.1;
 }
 
 -- members can have the weights of one site or more
-pub weights-fit : (all : List (List ℕ)) (sites : List ListedSite) (rest : List (List ℕ))
+pub weights-fit : {all rest : List (List ℕ)} {sites : List ListedSite}
     → HasSites all sites rest → 1 ≤ length sites
     → CountFits (weights_of sites) × ¬ Contains {X = ℕ} (weights_of sites) 0
-weights-fit all sites rest has some =
+weights-fit {sites = sites} has some =
     let many = length-map sites (λ (s : ListedSite). s.weight) in
-    let most = HasSites-most all sites rest has in
-    let each =
-    All-map IsWeight (λ (s : ListedSite). s.weight) sites
-    (AreSitesFrom-weights 1 has.named sites has.sites.0) in (
-      (omega (arith, many, some), omega (arith, many, most)),
-      λ zero.
-          let least = (All-contains IsWeight (weights_of sites) 0 each zero).0 in
-          absurd (omega (arith, least)),
+    let most = HasSites-most has in
+    let each = All-map IsWeight (λ (s : ListedSite). s.weight) sites
+    (AreListed-read has some).weights in (
+      (omega arith, omega arith),
+      λ zero. omega (arith, (All-contains IsWeight (weights_of sites) 0 each zero).0),
     )
 
 -- there are none without a site
@@ -112,19 +100,12 @@ weights-some sites fit =
 pub fault_of_none : (text : List ℕ) → lines text ≡ [] → HasFault text 1
 fault_of_none text none =
     no_federation text 1
-    (λ first later f is says. let both : [] ≡ first ∷ later = sym none ∙ is in absurd (cc both))
-    refl
+    (λ first later f is says. cc (none, is)) refl
 
 pub fault_of_first : (text first : List ℕ) (later : List (List ℕ)) → lines text ≡ first ∷ later
     → federation_in (words_of first) ≡ None → HasFault text 1
 fault_of_first text first later is none =
-    no_federation text 1
-    (λ other others f also says.
-    let same = same_lines text first other later others is also in
-    let both : None ≡ Some f =
-    sym none ∙ ap (λ (line : List ℕ). federation_in (words_of line)) same.first ∙ says in
-    absurd (cc both))
-    refl
+    no_federation text 1 (λ other others f also says. cc (is, none, also, says)) refl
 
 -- the line after the sites' isn't one of a members file
 pub fault_after : (text first : List ℕ) (later rest : List (List ℕ)) (f : ℕ)
@@ -135,8 +116,8 @@ pub fault_after : (text first : List ℕ) (later rest : List (List ℕ)) (f : �
 fault_after text first later rest f sites is says has no_end =
     let many = AreSitesFrom-length 1 has.named sites has.sites.0 in
     no_site text (length sites + 2) f first has.named rest sites
-    (is ∙ ap (λ (ls : List (List ℕ)). first ∷ ls) has.is) says has.sites has.no_more
-    (λ ends. no_end (omega (arith, many, ends.0), ends.1)) (omega (arith, many))
+    (cc (is, has.is)) says has.sites has.no_more
+    (λ ends. no_end (omega (arith, ends.0), ends.1)) (omega arith)
 
 -- a test that answers by a fault
 pub fault_from_ok_or : {X : Type 0} (found : Option X) (wanted fault : MembersFault)

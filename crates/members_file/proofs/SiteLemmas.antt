@@ -1,7 +1,6 @@
 -- The lines of sites, one after another.
-use Rattle.std.proofs.Common.{◌≡◌, ℕ, ◌+◌, ◌≤◌, ◌&&◌, Bool, cond, true, false, eqb}
-use Rattle.std.proofs.Common.{List, [], ◌∷◌, ◌++◌, length, All, Option, Some, None, refl, sym}
-use Rattle.std.proofs.Common.{ap, ◌∙◌, subst, arith}
+use Rattle.std.proofs.Common.{◌≡◌, ℕ, ◌+◌, ◌≤◌, ◌&&◌, Bool, cond, true, false, eqb, List, [], ◌∷◌}
+use Rattle.std.proofs.Common.{◌++◌, length, All, Option, Some, None, refl, ap, ◌∙◌, subst, arith}
 use Rattle.std.specs.Prelude.{codes}
 use Rattle.std.specs.Str.{bytes_eq}
 use Rattle.std.proofs.lemmas.Bool.{eqb-true, eq-eqb}
@@ -9,9 +8,9 @@ use Rattle.std.proofs.lemmas.Option.{same_Some}
 use Rattle.std.proofs.lemmas.List.Elements.{All-nil, All-cons}
 use Rattle.fed_types.specs.Limits.{greatest_weight}
 use Rattle.fed_types.specs.Sites.{IsWeight}
-use Rattle.words.specs.Words.{◌>>=◌, number_in, words_of}
-use Rattle.words.proofs.GrammarLemmas.{IsNumeral-number_in}
-use Rattle.words.proofs.StepLemmas.{bind_some}
+use Rattle.tokens.specs.Words.{◌>>=◌, number_in, words_of}
+use Rattle.tokens.proofs.GrammarLemmas.{IsNumeral-number_in}
+use Rattle.tokens.proofs.StepLemmas.{bind_some}
 use Rattle.members_file.specs.declared.listed_site.ListedSite.{ListedSite}
 use Rattle.members_file.specs.Files.{AreTogether, AreSites, AreSitesFrom}
 use Rattle.members_file.specs.Limits.{most_sites, greatest_port}
@@ -28,10 +27,9 @@ use Rattle.members_file.proofs.TogetherLemmas.{AreTogether-more, AreTogether-las
 weight_in-range : (words : List (List ℕ)) (w : ℕ) → weight_in words ≡ Some w → IsWeight w
 unfolding weight_in
 weight_in-range [] w is =
-    let one : 1 ≡ w = same_Some 1 w is in (omega (arith, one), omega (arith, one))
+    let one : 1 ≡ w = cc is in (omega arith, omega arith)
 weight_in-range (word ∷ []) w is =
-    let of_weight = IsNumeral-number_in 1 greatest_weight word w is in
-    (omega (arith, of_weight.1), omega (arith, of_weight.2))
+    let of_weight = IsNumeral-number_in 1 greatest_weight word w is in (of_weight.1, of_weight.2)
 weight_in-range (a ∷ b ∷ more) w is = absurd (cc is)
 
 -- a site's number and the site
@@ -59,8 +57,7 @@ IsPlace-place_in word p is =
         let of_port = IsNumeral-number_in 1 greatest_port word port number in
         subst IsPlace (same_Some (place.Port port) p is) (of_port.1, of_port.2)
     go None number (Some a) address is =
-        let of_text = reads word a in
-        let text = of_text.1 address in
+        let text = (reads word a).1 address in
         subst IsPlace (same_Some (place.Address a) p is) (text.in_range, text.listable)
     go None number None address is = absurd (cc is)
 
@@ -73,9 +70,6 @@ pub record InRange (n : ℕ) (site : ListedSite) : Type 0 where
 pub site_in-range : (words : List (List ℕ)) (n : ℕ) (s : ListedSite)
     → site_in words ≡ Some (n, s) → InRange n s
 unfolding site_in
-site_in-range [] n s is = absurd (cc is)
-site_in-range (a ∷ []) n s is = absurd (cc is)
-site_in-range (a ∷ b ∷ []) n s is = absurd (cc is)
 site_in-range (name ∷ site ∷ place ∷ weight) n s is =
     go (bytes_eq name (codes "site")) refl is
   where
@@ -87,70 +81,52 @@ site_in-range (name ∷ site ∷ place ∷ weight) n s is =
         let a = bind_some (number_in 1 most_sites site) (with_place place weight) (n, s) found in
         let p = bind_some (place_in place) (with_weight weight a.0) (n, s) a.2 in
         let w = bind_some (weight_in weight) (pair_of a.0 p.0) (n, s) p.2 in
-        let pairs = same_Some (a.0, listed p.0 w.0) (n, s) w.2 in
-        let same_site : a.0 ≡ n = ap (λ (x : ℕ × ListedSite). x.0) pairs in
-        let same_place : p.0 ≡ s.place = ap (λ (x : ℕ × ListedSite). x.1.place) pairs in
-        let same_weight : w.0 ≡ s.weight = ap (λ (x : ℕ × ListedSite). x.1.weight) pairs in
-        let of_site = IsNumeral-number_in 1 most_sites site a.0 a.1 in
-        record {
-          number = omega (arith, same_site, of_site.2);
-          place = subst IsPlace same_place (IsPlace-place_in place p.0 p.1);
-          weight = subst IsWeight same_weight (weight_in-range weight w.0 w.1);
-        }
+        subst (λ (x : ℕ × ListedSite). InRange x.0 x.1)
+        (same_Some (a.0, listed p.0 w.0) (n, s) w.2)
+        (record {
+          number = (IsNumeral-number_in 1 most_sites site a.0 a.1).2;
+          place = IsPlace-place_in place p.0 p.1;
+          weight = weight_in-range weight w.0 w.1;
+        })
+site_in-range _ n s is = absurd (cc is)
 
 -- as many sites as lines
 pub AreSitesFrom-length : (n : ℕ) (lines : List (List ℕ)) (sites : List ListedSite)
     → AreSitesFrom n lines sites → length lines ≡ length sites
 AreSitesFrom-length n [] [] are = refl
-AreSitesFrom-length n [] (site ∷ sites) are = absurd are
-AreSitesFrom-length n (line ∷ lines) [] are = absurd are
 AreSitesFrom-length n (line ∷ lines) (site ∷ sites) are =
     omega (arith, AreSitesFrom-length (n + 1) lines sites are.1)
+AreSitesFrom-length n _ _ are = absurd are
 
 -- no more of them than can be
 pub AreSitesFrom-most : (n : ℕ) (lines : List (List ℕ)) (sites : List ListedSite)
     → AreSitesFrom n lines sites → n ≤ most_sites + 1 → n + length sites ≤ most_sites + 1
-AreSitesFrom-most n [] [] are most = omega (arith, most)
-AreSitesFrom-most n [] (site ∷ sites) are most = absurd are
-AreSitesFrom-most n (line ∷ lines) [] are most = absurd are
+AreSitesFrom-most n [] [] are most = omega arith
 AreSitesFrom-most n (line ∷ lines) (site ∷ sites) are most =
     let here = site_in-range (words_of line) n site are.0 in
-    omega (arith, AreSitesFrom-most (n + 1) lines sites are.1 (omega (arith, here.number)))
+    omega (arith, AreSitesFrom-most (n + 1) lines sites are.1 (omega arith))
+AreSitesFrom-most n _ _ are most = absurd are
 
 -- each in its ranges
-pub AreSitesFrom-places : (n : ℕ) (lines : List (List ℕ)) (sites : List ListedSite)
-    → AreSitesFrom n lines sites → All (λ s. IsPlace s.place) sites
-AreSitesFrom-places n [] [] are = All-nil (λ s. IsPlace s.place)
-AreSitesFrom-places n [] (site ∷ sites) are = absurd are
-AreSitesFrom-places n (line ∷ lines) [] are = absurd are
-AreSitesFrom-places n (line ∷ lines) (site ∷ sites) are =
-    let here = site_in-range (words_of line) n site are.0 in
-    All-cons (λ s. IsPlace s.place) site sites here.place
-    (AreSitesFrom-places (n + 1) lines sites are.1)
-
-pub AreSitesFrom-weights : (n : ℕ) (lines : List (List ℕ)) (sites : List ListedSite)
-    → AreSitesFrom n lines sites → All (λ s. IsWeight s.weight) sites
-AreSitesFrom-weights n [] [] are = All-nil (λ s. IsWeight s.weight)
-AreSitesFrom-weights n [] (site ∷ sites) are = absurd are
-AreSitesFrom-weights n (line ∷ lines) [] are = absurd are
-AreSitesFrom-weights n (line ∷ lines) (site ∷ sites) are =
-    let here = site_in-range (words_of line) n site are.0 in
-    All-cons (λ s. IsWeight s.weight) site sites here.weight
-    (AreSitesFrom-weights (n + 1) lines sites are.1)
+pub AreSitesFrom-ranges : {P : ListedSite → Type 0}
+    → ((n : ℕ) (site : ListedSite) → InRange n site → P site) → (n : ℕ) (lines : List (List ℕ))
+    (sites : List ListedSite) → AreSitesFrom n lines sites → All P sites
+AreSitesFrom-ranges {P} holds n [] [] are = All-nil P
+AreSitesFrom-ranges {P} holds n (line ∷ lines) (site ∷ sites) are =
+    All-cons P site sites (holds n site (site_in-range (words_of line) n site are.0))
+    (AreSitesFrom-ranges holds (n + 1) lines sites are.1)
+AreSitesFrom-ranges holds n _ _ are = absurd are
 
 -- lines have one list of sites at most
 pub AreSitesFrom-same : (n : ℕ) (lines : List (List ℕ)) (a b : List ListedSite)
     → AreSitesFrom n lines a → AreSitesFrom n lines b → a ≡ b
 AreSitesFrom-same n [] [] [] are also = refl
-AreSitesFrom-same n [] [] (t ∷ b) are also = absurd also
-AreSitesFrom-same n [] (s ∷ a) b are also = absurd are
-AreSitesFrom-same n (line ∷ lines) [] b are also = absurd are
-AreSitesFrom-same n (line ∷ lines) (s ∷ a) [] are also = absurd also
 AreSitesFrom-same n (line ∷ lines) (s ∷ a) (t ∷ b) are also =
-    let pairs : Some (n, s) ≡ Some (n, t) = sym are.0 ∙ also.0 in
+    let pairs : Some (n, s) ≡ Some (n, t) = cc (are.0, also.0) in
     let first : s ≡ t = ap (λ (x : ℕ × ListedSite). x.1) (same_Some (n, s) (n, t) pairs) in
-    let rest = AreSitesFrom-same (n + 1) lines a b are.1 also.1 in
-    ap (λ (x : ListedSite). x ∷ a) first ∙ ap (λ (xs : List ListedSite). t ∷ xs) rest
+    cc (first, AreSitesFrom-same (n + 1) lines a b are.1 also.1)
+AreSitesFrom-same n lines a b are also =
+    absurd (omega (arith, AreSitesFrom-length n lines a are, AreSitesFrom-length n lines b also))
 
 -- the sites of the first lines, and of those after them
 pub record Parts (n : ℕ) (front back : List (List ℕ)) (sites : List ListedSite) : Type 0 where
@@ -187,13 +163,12 @@ pub AreSitesFrom-more : (n : ℕ) (lines : List (List ℕ)) (sites : List Listed
     → AreSitesFrom n (lines ++ line ∷ []) (sites ++ site ∷ [])
 AreSitesFrom-more n [] [] line site are is =
     (is ∙ ap (λ (k : ℕ). Some (k, site)) (omega arith), tt)
-AreSitesFrom-more n [] (s ∷ sites) line site are is = absurd are
-AreSitesFrom-more n (first ∷ lines) [] line site are is = absurd are
 AreSitesFrom-more n (first ∷ lines) (s ∷ sites) line site are is = (
   are.0,
   AreSitesFrom-more (n + 1) lines sites line site are.1
       (is ∙ ap (λ (k : ℕ). Some (k, site)) (omega arith)),
 )
+AreSitesFrom-more n _ _ line site are is = absurd are
 
 -- what the line of one more site says
 pub one_more : (n : ℕ) (lines : List (List ℕ)) (line : List ℕ) (sites more : List ListedSite)
@@ -203,18 +178,16 @@ pub one_more : (n : ℕ) (lines : List (List ℕ)) (line : List ℕ) (sites more
 one_more n lines line sites more are also =
     let parts = Parts-from n lines (line ∷ []) more also in
     let same = AreSitesFrom-same n lines parts.first sites parts.are_first are in
-    let many = AreSitesFrom-length n lines sites are in
-    go parts.later parts.are_later
-    (parts.is ∙ ap (λ (xs : List ListedSite). xs ++ parts.later) same) many
+    go parts.later (rw (← AreSitesFrom-length n lines sites are) parts.are_later)
+    (rw same at parts.is)
   where
-    go : (later : List ListedSite) → AreSitesFrom (n + length lines) (line ∷ []) later
-        → more ≡ sites ++ later → length lines ≡ length sites
+    go : (later : List ListedSite) → AreSitesFrom (n + length sites) (line ∷ []) later
+        → more ≡ sites ++ later
         → (site : ListedSite) × (more ≡ sites ++ site ∷ [])
         × (site_in (words_of line) ≡ Some (n + length sites, site))
-    go [] last is many = absurd last
-    go (site ∷ []) last is many =
-        (site, is, last.0 ∙ ap (λ (k : ℕ). Some (n + k, site)) many)
-    go (site ∷ other ∷ later) last is many = absurd last.1
+    go [] last is = absurd last
+    go (site ∷ []) last is = (site, is, last.0)
+    go (site ∷ other ∷ later) last is = absurd last.1
 
 -- ---- the next site
 
@@ -234,18 +207,13 @@ AreSites-more lines sites line site are is =
         → (fit : Bool) → fits sites s.place ≡ fit
         → cond (next && fit) (Some s) None ≡ Some site
         → AreSites (lines ++ line ∷ []) (sites ++ site ∷ [])
-    go n s says false next fit has found = absurd (cc found)
-    go n s says true next false has found = absurd (cc found)
     go n s says true next true has found =
-        let same : s ≡ site = same_Some s site found in
+        let same = same_Some s site found in
         let place : n ≡ 1 + length sites = omega (arith, eqb-true n (length sites + 1) next) in (
-          AreSitesFrom-more 1 lines sites line site are.0
-              (says ∙ ap (λ (x : ℕ × ListedSite). Some x)
-              (ap (λ (k : ℕ). (k, s)) place
-              ∙ ap (λ (x : ListedSite). (1 + length sites, x)) same)),
-          AreTogether-more sites site are.1
-              (subst (λ (x : ListedSite). fits sites x.place ≡ true) same has),
+          AreSitesFrom-more 1 lines sites line site are.0 (rw (place, same) at says),
+          AreTogether-more sites site are.1 (rw same at has),
         )
+    go n s says _ next _ has found = absurd (cc found)
 
 -- any other line doesn't
 pub AreSites-no_more : (lines : List (List ℕ)) (sites : List ListedSite) (line : List ℕ)
@@ -254,19 +222,7 @@ pub AreSites-no_more : (lines : List (List ℕ)) (sites : List ListedSite) (line
 unfolding next_site
 AreSites-no_more lines sites line more are none also =
     let next = one_more 1 lines line sites more are.0 also.0 in
-    let says : next_site sites (words_of line) ≡ if_next sites (1 + length sites) next.0 =
-    ap (λ (s : Option (ℕ × ListedSite)). s >>= (λ (x : ℕ × ListedSite). if_next sites x.0 x.1))
-    next.2 in
     let place : eqb (1 + length sites) (length sites + 1) ≡ true =
     eq-eqb (1 + length sites) (length sites + 1) (omega arith) in
-    go next.0
-    (ap (λ (t : Bool). cond (t && fits sites next.0.place) (Some next.0) None)
-    (sym place) ∙ sym says ∙ none)
-    (AreTogether-last sites next.0 (subst AreTogether next.1 also.1))
-  where
-    go : (site : ListedSite) → cond (fits sites site.place) (Some site) None ≡ None
-        → fits sites site.place ≡ true → ⊥
-    go site found fit =
-        let none : Some site ≡ None =
-        ap (λ (t : Bool). cond t (Some site) None) (sym fit) ∙ found in
-        absurd (cc none)
+    let fit = AreTogether-last sites next.0 (subst AreTogether next.1 also.1) in
+    cc (rw (next.2, place, fit) at none)

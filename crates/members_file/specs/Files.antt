@@ -6,14 +6,14 @@ use Rattle.std.specs.Prelude.{List, [], ◌∷◌, ◌++◌, length, map, All, S
 use Rattle.std.specs.List.{AllPairs, list_all, list_any}
 use Rattle.std.specs.Str.Lines.{lines}
 use Rattle.fed_types.specs.Sites.{IsWeight, Membership, membership_of}
-use Rattle.words.specs.Words.{words_of}
+use Rattle.tokens.specs.Words.{words_of}
 use Rattle.members_file.specs.declared.listed_site.ListedSite.{ListedSite}
 use Rattle.members_file.specs.Limits.{most_sites}
 use Rattle.members_file.specs.Places.{GoTogether, IsPlace, address_at, is_address}
 use Rattle.members_file.specs.Lines.{federation_in, site_in}
 
--- what a members file says: the number of the federation, and the place and the weight of each site,
--- site 1 first
+-- what a members file says: the number of the federation, and the place and the weight of each
+-- site, site 1 first
 pub record MembersFile : Type 0 where
   pub federation : ℕ
   pub sites : List ListedSite

@@ -2,7 +2,7 @@
 use Rattle.std.specs.Prelude.{ℕ, List, [], ◌∷◌, codes, if◌then◌else◌, Option, Some, None}
 use Rattle.std.specs.Str.{bytes_eq}
 use Rattle.fed_types.specs.Limits.{greatest_federation, greatest_weight}
-use Rattle.words.specs.Words.{◌>>=◌, number_in}
+use Rattle.tokens.specs.Words.{◌>>=◌, number_in}
 use Rattle.members_file.specs.declared.listed_site.ListedSite.{ListedSite}
 use Rattle.members_file.specs.declared.place.Place.{Place}
 use Rattle.members_file.specs.Limits.{most_sites}

@@ -1,6 +1,7 @@
 -- The number of a federation that comes from its list of sites, and the digest of a members file.
 -- Digests are of SHA-256 (FIPS 180-4). A number is 8 bytes, the most significant first.
-use Rattle.std.specs.Prelude.{◌≡◌, ◌<◌, ℕ, ◌==◌, ◌||◌, ◌&&◌, not, Bool, List, ◌++◌, length, take, All}
+use Rattle.std.specs.Prelude.{◌≡◌, ◌<◌, ℕ, ◌==◌, ◌||◌, ◌&&◌, not, Bool, List, ◌++◌, length, take}
+use Rattle.std.specs.Prelude.{All}
 use Rattle.std.specs.Int.{w64, to_be_bytes, from_be_bytes}
 use Rattle.sha2.specs.Sha256.{sha256}
 use Rattle.members_file.specs.declared.listed_site.ListedSite.{ListedSite}

@@ -4,7 +4,7 @@ use Rattle.std.specs.Prelude.{List, Option, Some, None}
 use Rattle.std.specs.Fmt.{decimal}
 use Rattle.addresses.specs.Addresses.{at_port}
 use Rattle.addresses.specs.Texts.{ADDRESSES, address_in, is_ipv4, is_listable, text_of}
-use Rattle.words.specs.Words.{number_in}
+use Rattle.tokens.specs.Words.{number_in}
 use Rattle.members_file.specs.declared.place.Place.{Place}
 use Rattle.members_file.specs.declared.place.Place.TheVariants as place
 use Rattle.members_file.specs.declared.place.PlaceKind.{PlaceKind}

@@ -1,5 +1,5 @@
 ghost use Rattle.std.specs.Prelude.{◌≡◌, ◌≤◌, map, IfOk, IfSome};
-ghost use Rattle.words.specs.Words.{words_of};
+ghost use Rattle.tokens.specs.Words.{words_of};
 ghost use Rattle.members_file.specs.Limits.{most_sites};
 ghost use Rattle.members_file.specs.Lines.{federation_in, site_in, site_of, weight_in};
 ghost use Rattle.members_file.specs.inner.Sites.{fits, goes_with, next_site};
@@ -8,7 +8,7 @@ use crate::listed_site::ListedSite;
 use crate::place::Place;
 use fed_types::{GREATEST_WEIGHT, MOST_MEMBERS};
 use std::alloc::{AllocError, Global};
-use words::{parse_number, split_words};
+use tokens::{parse_number, split_words};
 
 /// The federation's number, by the words `federation F`.
 #[tactic(auto, unfolding(crate::specs::Lines::federation_in))]

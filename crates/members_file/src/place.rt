@@ -5,7 +5,7 @@ use addresses::Address;
 use std::alloc::{AllocError, Global};
 use std::fmt;
 use std::fmt::Display;
-use words::parse_number;
+use tokens::parse_number;
 
 /// Where a members file has a site: what stands in its line.
 #[derive(Clone, Copy, Debug)]

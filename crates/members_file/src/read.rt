@@ -10,7 +10,7 @@ use crate::member_sites::MemberSites;
 use crate::members_fault::MembersFault;
 use fed_types::Members;
 use std::alloc::{AllocError, Global};
-use words::{first_line, split_words};
+use tokens::{first_line, split_words};
 
 /// The members and sites of a text, or the number of its first line at fault. `Memory` is answered
 /// only if an allocation failed.

@@ -1,7 +1,7 @@
 //! Members files as text.
 
 ghost use Rattle.std.specs.Prelude.{◌≡◌, ◌++◌, IfOk, string_bytes};
-ghost use Rattle.words.specs.Pushes.{Pushes};
+ghost use Rattle.tokens.specs.Pushes.{Pushes};
 ghost use Rattle.members_file.specs.Texts.{federation_line, line_of, lines_of, text_of};
 
 use crate::listed_site::ListedSite;

@@ -34,7 +34,7 @@ use Rattle.site.specs.Batches.{no_cell}
 use Rattle.site.specs.Calls as calls
 use Rattle.site.specs.Effects.{Effect}
 use Rattle.site.specs.Sites.{OpenSite}
-use Rattle.site_tables.specs.Contents.{Represents}
+use Rattle.site.specs.Contents.{Represents}
 use Rattle.bag_check.specs.Check.{check_of}
 use Rattle.udp_site.specs.BatchTurns.{Batch, Batching, Batches, Shows, begins_with}
 use Rattle.udp_site.specs.Requests as requests

@@ -1,7 +1,6 @@
 -- What the definitions give of a few messages, by computation. Sites are 1 to 3 or 1 to 4, and a
 -- bag is a number.
-use Rattle.std.proofs.Common.{◌≡◌, ℕ, List, [], ◌∷◌, Option, None}
-use Rattle.std.proofs.Common.{Some, refl}
+use Rattle.std.proofs.Common.{◌≡◌, ℕ, List, [], ◌∷◌, Option, None, Some, refl}
 use Rattle.fed_types.specs.declared.bag_id.BagId.{BagId}
 use Rattle.fed_types.specs.declared.vote.Vote.{Vote}
 use Rattle.fed_types.specs.Ballots.{BallotNumber, ballot_cmp}

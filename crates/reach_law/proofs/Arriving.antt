@@ -1,11 +1,10 @@
 -- Datagrams that arrive, all in the order of their numbers or those of some numbers: where each is
 -- of the slot, and goes to one of those that run, nothing disturbs them, and each one arrives.
-use Rattle.std.proofs.Common.{ℕ, zero, suc, ◌≡◌, ◌≤◌, ◌<◌, ◌+◌, Bool, true, false, ◌&&◌, cond}
-use Rattle.std.proofs.Common.{inl, inr}
-use Rattle.std.proofs.Common.{refl, sym, ◌∙◌, ap, subst, List, [], ◌∷◌, length, Option, None}
-use Rattle.std.proofs.Common.{Some, arith}
+use Rattle.std.proofs.Common.{ℕ, zero, suc, ◌≡◌, ◌≤◌, ◌<◌, ◌+◌, Bool, true, false, ◌&&◌, cond, inl}
+use Rattle.std.proofs.Common.{inr, refl, ap, subst, List, [], ◌∷◌, length, Option, None, Some}
+use Rattle.std.proofs.Common.{arith}
 use Rattle.std.specs.Prelude.{slice_get}
-use Rattle.std.proofs.lemmas.Bool.{cases_eq, and_parts, and_from, false≢true}
+use Rattle.std.proofs.lemmas.Bool.{cases_eq, and_parts, false≢true}
 use Rattle.std.proofs.lemmas.Option.{slice_get_within}
 use Rattle.fed_types.specs.Lists.{Has, here, there, is_in}
 use Rattle.fed_types.specs.Quorums.{QuorumSystem}
@@ -130,8 +129,7 @@ are_among running slot numbers before (d ∷ sent) =
 is_it : (running : List ℕ) (slot : SlotName) (d : Send) → d.message.slot ≡ slot → Has d.to running
     → is_of_it running slot (Some d) ≡ true
 is_it running slot d same runs =
-    and_from (same_slot d.message.slot slot) (is_in running d.to)
-    ((same_slot_decides d.message.slot slot).1 same) ((is_in_decides running d.to).1 runs)
+    rw ((same_slot_decides d.message.slot slot).1 same, (is_in_decides running d.to).1 runs) refl
 
 has_number : (running : List ℕ) (slot : SlotName) (numbers : List ℕ) (before k : ℕ)
     (sent : List Send) (d : Send) → are_among running slot numbers before sent ≡ true
@@ -144,8 +142,7 @@ has_number running slot numbers before zero (x ∷ sent) d passes at same runs =
     and_parts (cond (is_of_it running slot (Some x)) (is_in numbers (suc before)) true)
     (are_among running slot numbers (suc before) sent) passes in
     let found : is_in numbers (suc before) ≡ true =
-    ap (λ t. cond t (is_in numbers (suc before)) true)
-    (sym (ap (λ y. is_of_it running slot (Some y)) is ∙ is_it running slot d same runs)) ∙ both.0 in
+    rw (is, is_it running slot d same runs) at both.0 in
     subst (λ n. Has n numbers) (omega arith) ((is_in_decides numbers (suc before)).0 found)
 has_number running slot numbers before (suc k) (x ∷ sent) d passes at same runs =
     let both =

@@ -1,8 +1,8 @@
 -- A site recovers, and hears which ballots the members that run have promised: its next ballot is
 -- above them all.
 use Rattle.std.proofs.Common.{ℕ, ◌≡◌, ◌≤◌, ◌<◌, ◌+◌, ◌⊎◌, max, Bool, true, false, cond, inl, inr}
-use Rattle.std.proofs.Common.{refl, sym, ap, subst, ◌∙◌, List, [], ◌∷◌, ◌++◌, length}
-use Rattle.std.proofs.Common.{Option, None, Some, append-nil, arith}
+use Rattle.std.proofs.Common.{refl, sym, ap, subst, ◌∙◌, List, [], ◌∷◌, ◌++◌, length, Option, None}
+use Rattle.std.proofs.Common.{Some, append-nil, arith}
 use Rattle.std.specs.Prelude.{Ok}
 use Rattle.std.proofs.lemmas.Bool.{cases_eq, lt-ltb}
 use Rattle.fed_types.specs.declared.bag_id.BagId.{BagId}
@@ -20,22 +20,20 @@ use Rattle.records.specs.SlotStates.{known_of}
 use Rattle.dgram.specs.declared.body.Body.{Body}
 use Rattle.dgram.specs.declared.body.Body.TheVariants.{Prepare, Promise, Accept, Refused}
 use Rattle.dgram.specs.Heard.{bodies_of, floor_of}
-use Rattle.acceptor.specs.declared.decision.Decision.{Decision}
 use Rattle.acceptor.specs.Decisions.{promises, refuses, on_prepare, prepare_decision}
 use Rattle.proposer.specs.Proposals.{last_round, next_ballot, ready}
 use Rattle.proposer.specs.VolatileStates.{VolatileState, hears, with_current}
-use Rattle.site.specs.Arrivals.{decided, proposing, on_body}
+use Rattle.site.specs.Arrivals.{proposing, on_body}
 use Rattle.site.specs.Effects.{Effect, Send, to_each}
 use Rattle.world_law.proofs.Order.{below_is}
 use Rattle.world_law.specs.Networks.{Network}
 use Rattle.reach_law.proofs.Words.{of_slot, said_self, Silent, promised_silent, used_silent}
 use Rattle.reach_law.proofs.Words.{has_stays, used_now, promised_now, about, floor_quiet}
-use Rattle.reach_law.proofs.Words.{floor_refused, to_site, to_each_has}
-use Rattle.reach_law.proofs.Leads.{IsUp, Fresh, Took, took_stay, took_volatile, took_up}
-use Rattle.reach_law.proofs.Leads.{took_later, took_fresh, took_new, spent, Leads, each}
-use Rattle.reach_law.proofs.Leads.{answered_leads, recover_leads}
-use Rattle.reach_law.specs.Running.{records_at, volatile_at, HasVoteOrDeposit}
-use Rattle.reach_law.proofs.Words.{some_same}
+use Rattle.reach_law.proofs.Words.{floor_refused, to_site, to_each_has, some_same}
+use Rattle.reach_law.proofs.Leads.{IsUp, Fresh, Took, took_stay, took_volatile, took_up, took_later}
+use Rattle.reach_law.proofs.Leads.{took_fresh, took_new, spent, Leads, each, answered_leads}
+use Rattle.reach_law.proofs.Leads.{recover_leads}
+use Rattle.reach_law.specs.Running.{AreMembers, records_at, volatile_at, HasVoteOrDeposit}
 
 -- it sends these, and has heard what came
 abbrev pub sending : List Send → VolatileState → Effect
@@ -53,57 +51,42 @@ pub promise_if : (slot : SlotName) (rs : List Record) (b : BallotNumber)
     → ((a : BallotNumber) → promised_of slot rs ≡ Some a → Below a b)
     → prepare_decision slot rs b ≡ promises b (vote_of slot rs)
 unfolding prepare_decision
-promise_if slot rs b l = go (promised_of slot rs) refl
+promise_if slot rs b l = go (promised_of slot rs) l
   where
-    go : (o : Option BallotNumber) → promised_of slot rs ≡ o
-        → on_prepare (promised_of slot rs) (vote_of slot rs) b ≡ promises b (vote_of slot rs)
-    go None e = ap (λ (o : Option BallotNumber). on_prepare o (vote_of slot rs) b) e
-    go (Some a) e =
-        ap (λ (o : Option BallotNumber). on_prepare o (vote_of slot rs) b) e
-        ∙ ap (λ (t : Bool). cond t (promises b (vote_of slot rs)) (refuses b a))
-        ((below_decides a b).1 (l a e))
+    go : (o : Option BallotNumber) → ((a : BallotNumber) → o ≡ Some a → Below a b)
+        → on_prepare o (vote_of slot rs) b ≡ promises b (vote_of slot rs)
+    go None l = refl
+    go (Some a) l = rw ((below_decides a b).1 (l a refl)) refl
 
 pub prepare_cases : (slot : SlotName) (rs : List Record) (b : BallotNumber)
     → ((a : BallotNumber) → promised_of slot rs ≡ Some a → Below a b)
     ⊎ ((a : BallotNumber) × (promised_of slot rs ≡ Some a)
     × (prepare_decision slot rs b ≡ refuses b a))
 unfolding prepare_decision
-prepare_cases slot rs b = go (promised_of slot rs) refl
+prepare_cases slot rs b = go (promised_of slot rs)
   where
-    stands : (a : BallotNumber) → promised_of slot rs ≡ Some a → (t : Bool) → below a b ≡ t
-        → ((a : BallotNumber) → promised_of slot rs ≡ Some a → Below a b)
-        ⊎ ((a : BallotNumber) × (promised_of slot rs ≡ Some a)
-        × (on_prepare (promised_of slot rs) (vote_of slot rs) b ≡ refuses b a))
-    stands a e true f =
-        inl (λ c g.
-        rw (← some_same (sym e ∙ g)) (below_is a b f))
-    stands a e false f =
-        inr (
-          a,
-          e,
-          ap (λ (o : Option BallotNumber). on_prepare o (vote_of slot rs) b) e
-              ∙ ap (λ (t : Bool). cond t (promises b (vote_of slot rs)) (refuses b a)) f,
-        )
+    test : (a : BallotNumber) (t : Bool) → below a b ≡ t
+        → ((c : BallotNumber) → ◌≡◌ {A = Option BallotNumber} (Some a) (Some c) → Below c b)
+        ⊎ (cond t (promises b (vote_of slot rs)) (refuses b a) ≡ refuses b a)
+    test a true f = inl (λ c g. rw (← some_same g) (below_is a b f))
+    test a false f = inr refl
 
-    go : (o : Option BallotNumber) → promised_of slot rs ≡ o
-        → ((a : BallotNumber) → promised_of slot rs ≡ Some a → Below a b)
-        ⊎ ((a : BallotNumber) × (promised_of slot rs ≡ Some a)
-        × (on_prepare (promised_of slot rs) (vote_of slot rs) b ≡ refuses b a))
-    go None e = inl (λ c g. absurd (none (sym e ∙ g)))
-      where
-        none : {c : BallotNumber} → ◌≡◌ {A = Option BallotNumber} None (Some c) → ⊥
-        none g = cc
-    go (Some a) e = stands a e (below a b) refl
+    go : (o : Option BallotNumber) → ((a : BallotNumber) → o ≡ Some a → Below a b)
+        ⊎ ((a : BallotNumber) × (o ≡ Some a) × (on_prepare o (vote_of slot rs) b ≡ refuses b a))
+    go None = inl (λ c g. absurd (cc g))
+    go (Some a) = elim (test a (below a b) refl) [
+      | inl more ↦ inl more
+      | inr refused ↦ inr (a, refl, refused)
+    ]
 
 module _ (q : QuorumSystem) (running : List ℕ) (slot : SlotName) (before : ℕ)
-    (members : (n : ℕ) → Has n running → Has n q.members) (p : ℕ) (runs : Has p running) where
+    (members : AreMembers q running) (p : ℕ) (runs : Has p running) where
   abbrev pub last : Network → ℕ
   last w = last_round slot (records_at w p) (volatile_at w p).heard
 
   -- no ballot that the member has promised is of a greater round than the site's last
   abbrev pub Seen : ℕ → Network → Type 0
-  Seen n w =
-      (b : BallotNumber) → promised_of slot (records_at w n) ≡ Some b → b.round ≤ last w
+  Seen n w = (b : BallotNumber) → promised_of slot (records_at w n) ≡ Some b → b.round ≤ last w
 
   pub record Room (w : Network) : Type 0 where
     pub up : (n : ℕ) → Has n running → IsUp w n
@@ -121,8 +104,7 @@ module _ (q : QuorumSystem) (running : List ℕ) (slot : SlotName) (before : ℕ
   pub record Asking (r : ℕ) (w : Network) : Type 0 where
     pub base : Room w
     pub used : r ≤ used_of slot (records_at w p)
-    pub asked : (n : ℕ) → Has n running
-        → Fresh before w.sent (to_site n slot (Prepare (ballot r)))
+    pub asked : (n : ℕ) → Has n running → Fresh before w.sent (to_site n slot (Prepare (ballot r)))
 
   -- ---- a recovery
 
@@ -130,17 +112,14 @@ module _ (q : QuorumSystem) (running : List ℕ) (slot : SlotName) (before : ℕ
       → next_ballot p slot (records_at w p) (volatile_at w p).heard
       ≡ Some (ballot (1 + last w))
   unfolding next_ballot
-  next_is w l =
-      ap (λ (t : Bool). cond t (Some (ballot (1 + last w))) None)
-      (lt-ltb (last w) greatest_round l)
+  next_is w l = rw (lt-ltb (last w) greatest_round l) refl
 
   module _ (w : Network) (x : Network)
       (t : Took w p (Some (of_slot slot (entry.Round (1 + last w))))
       (with_current (volatile_at w p) slot (ballot (1 + last w)))
       (to_each slot (Prepare (ballot (1 + last w))) q.members) x) where
     begun_used : used_of slot (records_at x p) ≡ max (used_of slot (records_at w p)) (1 + last w)
-    begun_used =
-        ap (used_of slot) t.records ∙ used_now slot (records_at w p) (1 + last w)
+    begun_used = ap (used_of slot) t.records ∙ used_now slot (records_at w p) (1 + last w)
 
     begun_floor : floor_of (bodies_of slot (volatile_at x p).heard)
         ≡ floor_of (bodies_of slot (volatile_at w p).heard)
@@ -148,8 +127,7 @@ module _ (q : QuorumSystem) (running : List ℕ) (slot : SlotName) (before : ℕ
 
     pub begun_asked : before ≤ length w.sent → (n : ℕ) → Has n running
         → Fresh before x.sent (to_site n slot (Prepare (ballot (1 + last w))))
-    begun_asked l n h =
-        took_new t before _ l (to_each_has slot _ q.members n (members n h))
+    begun_asked l n h = took_new t before _ l (to_each_has slot _ q.members n (members n h))
 
     pub begun_has : HasVoteOrDeposit slot (records_at w p) → HasVoteOrDeposit slot (records_at x p)
     begun_has has =
@@ -192,14 +170,13 @@ module _ (q : QuorumSystem) (running : List ℕ) (slot : SlotName) (before : ℕ
 
   -- ---- what one member answers
 
-  module _ (r : ℕ) (w x y : Network) (n : ℕ) (h : Has n running) (commits : Option Record)
-      (sends sends' : List Send) (answer : Body) (a : Asking r w)
+  module _ {r : ℕ} {w x y : Network} {n : ℕ} {commits : Option Record} {sends sends' : List Send}
+      (answer : Body) (a : Asking r w)
       (t : Took w n commits (hears (volatile_at w n) (about slot (Prepare (ballot r)))) sends x)
       (u : Took x p None (hears (volatile_at x p) (about slot answer)) sends' y)
       (silent : Silent round_in slot commits) where
     same_records : (P : List Record → Type 0) (k : ℕ) → P (records_at x k) → P (records_at y k)
-    same_records P k =
-        took_stay P u (λ h. subst P (sym (append-nil (records_at x p))) h) k
+    same_records P k = took_stay P u (λ h. subst P (sym (append-nil (records_at x p))) h) k
 
     used_same : used_of slot (records_at y p) ≡ used_of slot (records_at w p)
     used_same =
@@ -260,57 +237,50 @@ module _ (q : QuorumSystem) (running : List ℕ) (slot : SlotName) (before : ℕ
         asked = λ m h. took_fresh u before _ (took_fresh t before _ (a.asked m h));
       }
 
+      goes_on : {k : ℕ}
+          → ((y : Network) → Asking r y → Seen n y
+          → ((m : ℕ) → Has m running → Seen m w → Seen m y) → Leads q running slot before y k)
+          → Leads q running slot before y k
+      goes_on next = next y asking_stays seen seen_stays
+
   -- what comes of a promise, and of a refusal
-  promised_seen : (r : ℕ) (w x y : Network) (n : ℕ) → Has n running → (v : Option Vote)
-      (sends sends' : List Send) → Asking r w
+  promised_seen : {r : ℕ} {w x y : Network} {n : ℕ} {sends sends' : List Send}
+      (v : Option Vote) → Asking r w
       → ((a : BallotNumber) → promised_of slot (records_at w n) ≡ Some a → Below a (ballot r))
-      → (t : Took w n (Some (of_slot slot (entry.Promise (ballot r))))
-      (hears (volatile_at w n) (about slot (Prepare (ballot r)))) sends x)
-      → (u : Took x p None
-      (hears (volatile_at x p) (about slot (Promise n (ballot r) v))) sends' y)
+      → Took w n (Some (of_slot slot (entry.Promise (ballot r))))
+      (hears (volatile_at w n) (about slot (Prepare (ballot r)))) sends x
+      → Took x p None (hears (volatile_at x p) (about slot (Promise n (ballot r) v))) sends' y
       → (last y ≡ last w) × Seen n y
-  promised_seen r w x y n h v sends sends' a l t u =
+  promised_seen {r} {w} {x} {y} {n} v a l t u =
       let silent : Silent round_in slot (Some (of_slot slot (entry.Promise (ballot r)))) =
       said_self round_in slot (entry.Promise (ballot r)) in
-      let used = used_same r w x y n h commits sends sends' answer a t u silent in
-      let early = floor_same r w x y n h commits sends sends' answer a t u silent in
-      let then = floor_then r w x y n h commits sends sends' answer a t u silent in
-      let late =
-      floor_quiet slot (volatile_at x p).heard (Promise n (ballot r) v) refl in
+      let used = used_same _ a t u silent in
+      let early = floor_same _ a t u silent in
+      let then = floor_then _ a t u silent in
+      let late = floor_quiet slot (volatile_at x p).heard (Promise n (ballot r) v) refl in
       let same : last y ≡ last w = omega (arith, used, early, then, late) in
       let now : promised_of slot (records_at y n) ≡ Some (ballot r) =
-      same_records r w x y n h commits sends sends' answer a t u silent
-      (λ (rs : List Record). promised_of slot rs ≡ Some (ballot r)) n
-      (ap (promised_of slot) t.records
-      ∙ promised_now slot (records_at w n) (ballot r) l) in
-      let enough = a.used in (
+      same_records _ a t u silent (λ (rs : List Record). promised_of slot rs ≡ Some (ballot r)) n
+      (ap (promised_of slot) t.records ∙ promised_now slot (records_at w n) (ballot r) l) in (
         same,
         λ b e.
             let is : ballot r ≡ b = some_same (sym now ∙ e) in
-            rw (← is) (omega (arith, used, enough)),
+            rw (← is) (omega (arith, used, a.used)),
       )
-    where
-      commits : Option Record
-      commits = Some (of_slot slot (entry.Promise (ballot r)))
 
-      answer : Body
-      answer = Promise n (ballot r) v
-
-  refused_seen : (r : ℕ) (w x y : Network) (n : ℕ) → Has n running → (c : BallotNumber)
-      (sends sends' : List Send) → Asking r w → promised_of slot (records_at w n) ≡ Some c
-      → (t : Took w n None (hears (volatile_at w n) (about slot (Prepare (ballot r)))) sends x)
-      → (u : Took x p None
-      (hears (volatile_at x p) (about slot (Refused n (ballot r) c))) sends' y)
+  refused_seen : {r : ℕ} {w x y : Network} {n : ℕ} {sends sends' : List Send}
+      (c : BallotNumber) → Asking r w → promised_of slot (records_at w n) ≡ Some c
+      → Took w n None (hears (volatile_at w n) (about slot (Prepare (ballot r)))) sends x
+      → Took x p None (hears (volatile_at x p) (about slot (Refused n (ballot r) c))) sends' y
       → (last y ≡ max (last w) c.round) × Seen n y
-  refused_seen r w x y n h c sends sends' a is t u =
-      let used = used_same r w x y n h None sends sends' answer a t u tt in
-      let early = floor_same r w x y n h None sends sends' answer a t u tt in
-      let then = floor_then r w x y n h None sends sends' answer a t u tt in
+  refused_seen {r} {w} {x} {y} {n} c a is t u =
+      let used = used_same _ a t u tt in
+      let early = floor_same _ a t u tt in
+      let then = floor_then _ a t u tt in
       let late = floor_refused slot (volatile_at x p).heard n (ballot r) c in
       let all : last y ≡ max (last w) c.round = omega (arith, used, early, then, late) in
       let now : promised_of slot (records_at y n) ≡ Some c =
-      same_records r w x y n h None sends sends' answer a t u tt
-      (λ (rs : List Record). promised_of slot rs ≡ Some c) n
+      same_records _ a t u tt (λ (rs : List Record). promised_of slot rs ≡ Some c) n
       (ap (promised_of slot) t.records ∙ ap (promised_of slot) (append-nil (records_at w n))
       ∙ is) in (
         all,
@@ -318,9 +288,6 @@ module _ (q : QuorumSystem) (running : List ℕ) (slot : SlotName) (before : ℕ
             let same : c ≡ b = some_same (sym now ∙ e) in
             rw (← same) (omega (arith, all)),
       )
-    where
-      answer : Body
-      answer = Refused n (ballot r) c
 
   -- one member more is asked
   module _ (r n : ℕ) (h : Has n running) (w : Network) (a : Asking r w) (k : ℕ)
@@ -338,8 +305,7 @@ module _ (q : QuorumSystem) (running : List ℕ) (slot : SlotName) (before : ℕ
         (Promise n (ballot r) (vote_of slot (records_at w n)))
         (Some (entry.Promise (ballot r))) (p ∷ []) k h runs (a.base.up n h) (a.base.up p runs)
         a.base.later (a.asked n h) refl refl (here refl)
-        (ap (λ (d : Decision). decided q n slot p d now)
-        (promise_if slot (records_at w n) (ballot r) l))
+        (rw (promise_if slot (records_at w n) (ballot r) l) refl)
         (λ x t.
         let f =
         proposing_is q slot (ballot r)
@@ -353,18 +319,10 @@ module _ (q : QuorumSystem) (running : List ℕ) (slot : SlotName) (before : ℕ
               (about slot (Promise n (ballot r) (vote_of slot (records_at w n))))),
           f.1,
           λ y u.
-              let s =
-              promised_seen r w x y n h (vote_of slot (records_at w n)) _ f.0 a l t u in
-              let room = a.base.room in
+              let s = promised_seen _ a l t u in
               let same : last y ≡ last w = s.0 in
-              let silent =
-              said_self round_in slot (entry.Promise (ballot r)) in
-              next y
-              (asking_stays r w x y n h _ _ f.0 _ a t u silent
-              (omega (arith, same)) (omega (arith, same, room)) s.1)
-              s.1
-              (seen_stays r w x y n h _ _ f.0 _ a t u silent
-              (omega (arith, same)) (omega (arith, same, room)) s.1),
+              goes_on _ a t u (said_self round_in slot (entry.Promise (ballot r)))
+              (omega (arith, same)) (omega (arith, same, a.base.room)) s.1 next,
         ))
 
     refused : (c : BallotNumber) → promised_of slot (records_at w n) ≡ Some c
@@ -375,21 +333,15 @@ module _ (q : QuorumSystem) (running : List ℕ) (slot : SlotName) (before : ℕ
         answered_leads q running slot before members w n p (Prepare (ballot r))
         (Refused n (ballot r) c) None (p ∷ []) k h runs (a.base.up n h) (a.base.up p runs)
         a.base.later (a.asked n h) refl refl (here refl)
-        (ap (λ (d : Decision). decided q n slot p d now) decides)
+        (rw decides refl)
         (λ x t. (
           sending [] (hears (volatile_at x p) (about slot (Refused n (ballot r) c))),
           refl,
           λ y u.
-              let s = refused_seen r w x y n h c _ [] a is t u in
-              let room = a.base.room in
-              let rooms = a.base.rooms n h c is in
+              let s = refused_seen c a is t u in
               let all : last y ≡ max (last w) c.round = s.0 in
-              next y
-              (asking_stays r w x y n h _ _ [] _ a t u tt
-              (omega (arith, all)) (omega (arith, all, room, rooms)) s.1)
-              s.1
-              (seen_stays r w x y n h _ _ [] _ a t u tt
-              (omega (arith, all)) (omega (arith, all, room, rooms)) s.1),
+              goes_on _ a t u tt (omega (arith, all))
+              (omega (arith, all, a.base.room, a.base.rooms n h c is)) s.1 next,
         ))
 
   pub visit : (r : ℕ) (n : ℕ) → Has n running → (w : Network) → Asking r w → (k : ℕ)

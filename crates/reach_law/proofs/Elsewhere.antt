@@ -1,7 +1,7 @@
 -- What happens to other slots, and at members that don't run, leaves what is so of a slot.
-use Rattle.std.proofs.Common.{ℕ, ◌≡◌, ◌≤◌, Bool, true, false, cond, inl}
-use Rattle.std.proofs.Common.{inr, refl, sym, ap, subst, ◌∙◌, List, [], ◌∷◌, ◌++◌, length}
-use Rattle.std.proofs.Common.{Option, None, Some, append-nil, eq-eqb}
+use Rattle.std.proofs.Common.{ℕ, ◌≡◌, ◌≤◌, Bool, true, false, cond, inl, inr, refl, sym, ap, subst}
+use Rattle.std.proofs.Common.{◌∙◌, List, [], ◌∷◌, ◌++◌, length, Option, None, Some, append-nil}
+use Rattle.std.proofs.Common.{eq-eqb}
 use Rattle.std.specs.Bool.{◌==◌}
 use Rattle.std.specs.Prelude.{⊤, Result, Ok, Err}
 use Rattle.std.specs.Option.{option_to_list}
@@ -17,21 +17,19 @@ use Rattle.bag_check.specs.declared.fault.BagFault.{BagFault}
 use Rattle.records.specs.declared.entry.Entry.{Entry}
 use Rattle.records.specs.declared.entry.Entry.TheVariants as entry
 use Rattle.records.specs.declared.record.Record.{Record}
-use Rattle.records.specs.SlotStates.{said_in, if_some, with_one, earlier, ballot_in}
-use Rattle.records.specs.SlotStates.{round_in, deposit_in, known_in, promised_of, used_of}
-use Rattle.records.specs.SlotStates.{deposit_of, known_of}
+use Rattle.records.specs.SlotStates.{said_in, ballot_in, round_in, deposit_in, known_in}
+use Rattle.records.specs.SlotStates.{promised_of, used_of, deposit_of, known_of}
 use Rattle.records.proofs.SlotStates.{deposit-push, known-push}
 use Rattle.dgram.specs.declared.body.Body.{Body}
 use Rattle.dgram.specs.declared.body.Body.TheVariants.{Prepare, Promise, Accept, Accepted, Refused}
 use Rattle.dgram.specs.declared.body.Body.TheVariants.{Ask, Known, Deposit, Query, Recover}
-use Rattle.dgram.specs.declared.body.Body.TheVariants.{DepositReply, QueryReply}
 use Rattle.dgram.specs.declared.message.Message.{Message}
 use Rattle.dgram.specs.Encoding.{body_from}
-use Rattle.dgram.specs.Heard.{body_in, bodies_of, promise_in}
+use Rattle.dgram.specs.Heard.{body_in, bodies_of}
 use Rattle.acceptor.specs.Decisions.{prepare_decision, accept_decision}
 use Rattle.learner.specs.LearnedBags.{learned_from, learned_of_known}
 use Rattle.proposer.specs.Proposals.{Current, gathered, ready, next_ballot}
-use Rattle.proposer.proofs.Gathered.{one_of, bodies-push, gathered-push}
+use Rattle.proposer.proofs.Gathered.{bodies-push, gathered-push}
 use Rattle.proposer.specs.VolatileStates.{VolatileState, new_volatile, hears, with_current}
 use Rattle.schedule.specs.declared.fate.Fate.{Fate}
 use Rattle.schedule.specs.declared.fate.Fate.TheVariants.{Whole, StopsIn, StopsAfter, FailsIn}
@@ -39,26 +37,22 @@ use Rattle.site.specs.declared.answer.Line.{Line}
 use Rattle.site.specs.declared.answer.Line.TheVariants as site_lines
 use Rattle.site.specs.declared.fault.SiteFault.{SiteFault}
 use Rattle.site.specs.declared.fault.SiteFault.TheVariants as faults
-use Rattle.site.specs.Arrivals.{answer_body, addressees, proposing, learning, telling}
-use Rattle.site.specs.Arrivals.{is_member, on_arrival, on_body}
+use Rattle.site.specs.Arrivals.{answer_body, addressees, proposing, learning, telling, is_member}
+use Rattle.site.specs.Arrivals.{on_arrival, on_body}
 use Rattle.site.specs.Calls.{Input, Deposits, Proposes, Recovers, Asks, Arrives, effect_of}
-use Rattle.site.specs.Calls.{on_deposit, on_propose, on_recover, on_ask, registering}
-use Rattle.site.specs.Calls.{deposit_fault, other_than, deposit_entry, begins_next}
-use Rattle.site.specs.Calls.{begins_ballot_if, recovers_if}
-use Rattle.site.specs.Effects.{Effect, Send, record_of, to_each, commits_and_sends}
-use Rattle.site.specs.Effects.{commits_and_says}
+use Rattle.site.specs.Calls.{on_deposit, on_propose, on_recover, on_ask, registering, deposit_fault}
+use Rattle.site.specs.Calls.{other_than, deposit_entry, begins_next, begins_ballot_if, recovers_if}
+use Rattle.site.specs.Effects.{Effect, Send, record_of, commits_and_sends, commits_and_says}
 use Rattle.site.specs.Effects as effects
 use Rattle.world_law.specs.Networks.{Mode, Up, Down, NeedsOpening, volatile_in, SiteState, Network}
-use Rattle.world_law.specs.Networks.{SiteOutcome, happening, outcome, nothing, reaches, takes}
-use Rattle.world_law.specs.Networks.{replies, stops, starts, opened, arrives, datagram_at, Event}
-use Rattle.world_law.specs.Networks.{happens}
+use Rattle.world_law.specs.Networks.{outcome, nothing, reaches, takes, replies, stops, starts}
+use Rattle.world_law.specs.Networks.{Event, happens}
 use Rattle.world_law.specs.Networks as networks
 use Rattle.world_law.proofs.Deeds.{carries_each}
 use Rattle.reach_law.specs.Undisturbed.{IsElsewhere}
-use Rattle.reach_law.proofs.Words.{Silent, promised_silent, used_silent, longer}
+use Rattle.reach_law.proofs.Words.{Silent, promised_silent, used_silent, longer, some_same}
 use Rattle.reach_law.proofs.Leads.{IsUp}
 use Rattle.reach_law.specs.Running.{records_at, volatile_at}
-use Rattle.reach_law.proofs.Words.{some_same}
 
 module _ (slot : SlotName) where
   -- another slot
@@ -86,8 +80,7 @@ module _ (slot : SlotName) where
 
   says_nothing : {X : Type 0} (kind : Entry → Option X) (r : Record) → Other r.slot
       → said_in kind slot r ≡ None
-  says_nothing {X} kind r other =
-      ap (λ (t : Bool). if_some kind (cond t (Some r.body) None)) (other_test r.slot other)
+  says_nothing kind r other = rw (other_test r.slot other) refl
 
   other_silent : {X : Type 0} (kind : Entry → Option X) (o : Option Record) → OtherRecord o
       → Silent kind slot o
@@ -107,16 +100,12 @@ module _ (slot : SlotName) where
           → deposit_of slot (rs ++ option_to_list o) ≡ deposit_of slot rs
       deposit None other = ap (deposit_of slot) (append-nil rs)
       deposit (Some r) other =
-          deposit-push slot rs r
-          ∙ ap (with_one earlier (deposit_of slot rs))
-          (says_nothing deposit_in r (other r refl))
+          rw (deposit-push slot rs r, says_nothing deposit_in r (other r refl)) refl
 
       known : (o : Option Record) → OtherRecord o
           → known_of slot (rs ++ option_to_list o) ≡ known_of slot rs
       known None other = ap (known_of slot) (append-nil rs)
-      known (Some r) other =
-          known-push slot rs r
-          ∙ ap (with_one earlier (known_of slot rs)) (says_nothing known_in r (other r refl))
+      known (Some r) other = rw (known-push slot rs r, says_nothing known_in r (other r refl)) refl
 
   -- ---- the volatile state
 
@@ -137,21 +126,15 @@ module _ (slot : SlotName) where
 
   hears_other : (v : VolatileState) (m : Message) → Other m.slot → SameFor v (hears v m)
   hears_other v m other = record {
-    bodies =
-        bodies-push slot v.heard m
-        ∙ ap (λ (o : Option Body). bodies_of slot v.heard ++ one_of o) none
-        ∙ append-nil (bodies_of slot v.heard);
+    bodies = rw (bodies-push slot v.heard m, none) (append-nil (bodies_of slot v.heard));
     within = λ k l. longer v.heard m k l;
     promises = λ c l.
-        gathered-push slot c v.heard m l
-        ∙ ap (λ (o : Option Body).
-        gathered slot c v.heard ++ one_of (if_some (promise_in c.ballot) o)) none
-        ∙ append-nil (gathered slot c v.heard);
+        rw (gathered-push slot c v.heard m l, none) (append-nil (gathered slot c v.heard));
     current = refl;
   }
     where
       none : body_in slot m ≡ None
-      none = ap (λ (t : Bool). cond t (Some m.body) None) (other_test m.slot other)
+      none = rw (other_test m.slot other) refl
 
   begins_other : (v : VolatileState) (s : SlotName) (b : BallotNumber) → Other s
       → SameFor v (with_current v s b)
@@ -159,10 +142,7 @@ module _ (slot : SlotName) where
     bodies = refl;
     within = λ k l. l;
     promises = λ c l. refl;
-    current =
-        ap (λ (t : Bool).
-        cond t (Some (record { ballot = b; heard_before = length v.heard })) (v.current slot))
-        (other_test s other);
+    current = rw (other_test s other) refl;
   }
 
   -- ---- effects
@@ -242,17 +222,9 @@ module _ (slot : SlotName) where
         learning_other now s (learned_from q s rs v.heard from vote) other same
     body_other now s (Known from bag) other same =
         learning_other now s (learned_of_known s rs bag) other same
-    body_other now s (Refused from asked standing) other same =
-        nothing_other v _ refl refl same
-    body_other now s (Ask from) other same =
-        telling_other now s from (known_of s rs) other same
-    body_other now s (Deposit path) other same = nothing_other v _ refl refl (same_for v)
-    body_other now s Query other same = nothing_other v _ refl refl (same_for v)
-    body_other now s Recover other same = nothing_other v _ refl refl (same_for v)
-    body_other now s (DepositReply from answer) other same =
-        nothing_other v _ refl refl (same_for v)
-    body_other now s (QueryReply from answer) other same =
-        nothing_other v _ refl refl (same_for v)
+    body_other now s (Refused from asked standing) other same = nothing_other v _ refl refl same
+    body_other now s (Ask from) other same = telling_other now s from (known_of s rs) other same
+    body_other now s _ other same = nothing_other v _ refl refl (same_for v)
 
     -- an input about another slot, or about none
     abbrev pub OtherInput : Input → Type 0
@@ -271,8 +243,7 @@ module _ (slot : SlotName) where
         go
         (deposit_fault (other_than bag (deposit_of s rs)) (other_than bag (known_of s rs)))
       where
-        go : (o : Option SiteFault)
-            → OtherEffect v (registering s (deposit_of s rs) bag o v)
+        go : (o : Option SiteFault) → OtherEffect v (registering s (deposit_of s rs) bag o v)
         go (Some fault) = nothing_other v _ refl refl (same_for v)
         go None =
             says_other v v s (deposit_entry (deposit_of s rs) bag) (site_lines.Registered bag)
@@ -293,9 +264,8 @@ module _ (slot : SlotName) where
       where
         go : (known own : Option BagId) (next : Option BallotNumber)
             → OtherEffect v (begins_ballot_if q s known own next v)
-        go (Some known) own next = nothing_other v _ refl refl (same_for v)
-        go None None next = nothing_other v _ refl refl (same_for v)
         go None (Some own) next = next_other s other next
+        go _ _ next = nothing_other v _ refl refl (same_for v)
 
     recover_other : (s : SlotName) → Other s → OtherEffect v (on_recover q n rs v s)
     unfolding on_recover
@@ -303,12 +273,10 @@ module _ (slot : SlotName) where
       where
         go : (known : Option BagId) (has : Bool) (next : Option BallotNumber)
             → OtherEffect v (recovers_if q s known has next v)
-        go (Some known) has next = nothing_other v _ refl refl (same_for v)
-        go None false next = nothing_other v _ refl refl (same_for v)
         go None true next = next_other s other next
+        go _ _ next = nothing_other v _ refl refl (same_for v)
 
-    input_other : (input : Input) → OtherInput input
-        → OtherEffect v (effect_of q n rs v input)
+    input_other : (input : Input) → OtherInput input → OtherEffect v (effect_of q n rs v input)
     unfolding on_arrival on_ask
     input_other (Deposits s checked) other = deposit_other s checked other
     input_other (Proposes s) other = propose_other s other
@@ -318,8 +286,7 @@ module _ (slot : SlotName) where
     input_other (Arrives None) other = nothing_other v _ refl refl (same_for v)
     input_other (Arrives (Some m)) other = go (is_member q (body_from m.body))
       where
-        go : (t : Bool)
-            → OtherEffect v
+        go : (t : Bool) → OtherEffect v
             (cond t (on_body q n rs v (hears v m) m.slot m.body) (on_arrival q n rs v None))
         go true = body_other (hears v m) m.slot m.body other (hears_other v m other)
         go false = nothing_other v _ refl refl (same_for v)
@@ -357,27 +324,19 @@ module _ (slot : SlotName) where
         → Elsewhere x (became x n site sends)
     unfolding became
     aside x n site sends not others = record {
-      words = λ k h.
-          subst (λ (s : SiteState). SameWords (records_at x k) s.records) (sym (same k h))
-          (words_same (records_at x k));
-      volatile = λ k h.
-          subst (λ (s : SiteState). SameFor (volatile_at x k) (volatile_in s.mode))
-          (sym (same k h)) (same_for (volatile_at x k));
-      up = λ k h up.
-          rw (same k h) up;
+      words = λ k h. rw (same k h, records_at) (words_same (records_at x k));
+      volatile = λ k h. rw (same k h, volatile_at) (same_for (volatile_at x k));
+      up = λ k h up. rw (same k h) up;
       more = sends;
       sent = refl;
       others = others;
     }
       where
         same : (k : ℕ) → Has k running → cond (k == n) site (x.sites k) ≡ x.sites k
-        same k h =
-            ap (λ (t : Bool). cond t site (x.sites k))
-            (ne_eqb k n (λ e. not (rw (← e) h)))
+        same k h = rw (ne_eqb k n (λ e. not (rw (← e) h))) refl
 
     -- at one that runs, which is up
-    at_running : (x : Network) (n : ℕ) (e : Effect) → OtherEffect (volatile_at x n) e
-        → Elsewhere x
+    at_running : (x : Network) (n : ℕ) (e : Effect) → OtherEffect (volatile_at x n) e → Elsewhere x
         (became x n
         (record {
           records = records_at x n ++ option_to_list e.commits;
@@ -385,48 +344,24 @@ module _ (slot : SlotName) where
         }) e.sends)
     unfolding became
     at_running x n e o = record {
-      words = λ k h. words k;
-      volatile = λ k h. volatile k;
-      up = λ k h up. up_then k up;
+      words = λ k h. elim (cases_eq k n) [
+        | inl same ↦
+            rw (eq-eqb k n same, records_at)
+            (rw same (words_more (records_at x n) e.commits o.commits))
+        | inr differ ↦ rw (ne_eqb k n differ, records_at) (words_same (records_at x k))
+      ];
+      volatile = λ k h. elim (cases_eq k n) [
+        | inl same ↦ rw (eq-eqb k n same, volatile_at) (rw same o.volatile)
+        | inr differ ↦ rw (ne_eqb k n differ, volatile_at) (same_for (volatile_at x k))
+      ];
+      up = λ k h up. elim (cases_eq k n) [
+        | inl same ↦ rw (eq-eqb k n same, volatile_at) refl
+        | inr differ ↦ rw (ne_eqb k n differ, volatile_at) up
+      ];
       more = e.sends;
       sent = refl;
       others = o.sends;
     }
-      where
-        site : SiteState
-        site = record {
-          records = records_at x n ++ option_to_list e.commits;
-          mode = Up e.volatile;
-        }
-
-        words : (k : ℕ)
-            → SameWords (records_at x k) (cond (k == n) site (x.sites k)).records
-        words k = elim (cases_eq k n) [
-          | inl same ↦
-              rw (eq-eqb k n same) (rw same (words_more (records_at x n) e.commits o.commits))
-          | inr differ ↦
-              rw (ne_eqb k n differ) (words_same (records_at x k))
-        ]
-
-        volatile : (k : ℕ)
-            → SameFor (volatile_at x k) (volatile_in (cond (k == n) site (x.sites k)).mode)
-        volatile k = elim (cases_eq k n) [
-          | inl same ↦
-              rw (eq-eqb k n same) (rw same o.volatile)
-          | inr differ ↦
-              rw (ne_eqb k n differ) (same_for (volatile_at x k))
-        ]
-
-        up_then : (k : ℕ) → IsUp x k
-            → (cond (k == n) site (x.sites k)).mode
-            ≡ Up (volatile_in (cond (k == n) site (x.sites k)).mode)
-        up_then k up = go (k == n)
-          where
-            go : (t : Bool)
-                → (cond t site (x.sites k)).mode
-                ≡ Up (volatile_in (cond t site (x.sites k)).mode)
-            go true = refl
-            go false = up
 
     -- what an outcome sends, the effect does
     outcome_sends : (n : ℕ) (s : SiteState) (after : Mode) (input : Input) (e : Effect)
@@ -453,15 +388,13 @@ module _ (slot : SlotName) where
               rw is (at_running x n (effect_of q n (records_at x n) (volatile_at x n) input)
               (input_other q n (records_at x n) (volatile_at x n) input other))
 
-          go : (t : Bool)
-              → Elsewhere x
+          go : (t : Bool) → Elsewhere x
               (cond t (reaches q x n (x.sites n).mode input Whole) (nothing x)).network
           go true = reached (x.sites n).mode up
           go false = nowhere x
 
       -- and one that doesn't
-      any_fate : (fate : Fate) → (Has n running → ⊥)
-          → Elsewhere x (takes q x n input fate).network
+      any_fate : (fate : Fate) → (Has n running → ⊥) → Elsewhere x (takes q x n input fate).network
       unfolding became
       any_fate fate not = go (is_in q.members n)
         where
@@ -472,8 +405,7 @@ module _ (slot : SlotName) where
               let o : OtherEffect (volatile_at x n)
               (effect_of q n (records_at x n) (volatile_at x n) input) =
               input_other q n (records_at x n) (volatile_at x n) input other in
-              let here : OtherEffect v e =
-              rw (← ap volatile_in is) o in
+              let here : OtherEffect v e = rw (← ap volatile_in is) o in
               aside x n (outcome n (x.sites n) (Up e.volatile) input e e.commits fate).site
               (outcome n (x.sites n) (Up e.volatile) input e e.commits fate).sends not
               (λ d h.
@@ -488,8 +420,7 @@ module _ (slot : SlotName) where
               (outcome_sends n (x.sites n) NeedsOpening input e None fate d h)))
           reached Down is = nowhere x
 
-          go : (t : Bool)
-              → Elsewhere x
+          go : (t : Bool) → Elsewhere x
               (cond t (reaches q x n (x.sites n).mode input fate) (nothing x)).network
           go true = reached (x.sites n).mode refl
           go false = nowhere x
@@ -498,31 +429,25 @@ module _ (slot : SlotName) where
           → Elsewhere x (takes q x n input fate).network
       taken fate is_whole up = go (is_in running n) refl
         where
-          go : (t : Bool) → is_in running n ≡ t
-              → Elsewhere x (takes q x n input fate).network
+          go : (t : Bool) → is_in running n ≡ t → Elsewhere x (takes q x n input fate).network
           go true e =
               let h = (is_in_decides running n).0 e in
               rw (is_whole h) (whole h (up h))
-          go false e =
-              any_fate fate (λ h. false≢true (sym e ∙ (is_in_decides running n).1 h))
+          go false e = any_fate fate (λ h. false≢true (sym e ∙ (is_in_decides running n).1 h))
 
     pub event_elsewhere : (x : Network) → ((n : ℕ) → Has n running → IsUp x n) → (e : Event)
         → IsElsewhere running slot x e → Elsewhere x (happens q x e).network
     unfolding happens became
     event_elsewhere x up (networks.Deposit n s checked fate) h =
         taken x n (Deposits s checked) h.0 fate h.1 (up n)
-    event_elsewhere x up (networks.Propose n s fate) h =
-        taken x n (Proposes s) h.0 fate h.1 (up n)
-    event_elsewhere x up (networks.Recover n s fate) h =
-        taken x n (Recovers s) h.0 fate h.1 (up n)
-    event_elsewhere x up (networks.Ask n m s fate) h =
-        taken x n (Asks s m) h.0 fate h.1 (up n)
+    event_elsewhere x up (networks.Propose n s fate) h = taken x n (Proposes s) h.0 fate h.1 (up n)
+    event_elsewhere x up (networks.Recover n s fate) h = taken x n (Recovers s) h.0 fate h.1 (up n)
+    event_elsewhere x up (networks.Ask n m s fate) h = taken x n (Asks s m) h.0 fate h.1 (up n)
     event_elsewhere x up (networks.Query n s) h = member (is_in q.members n)
       where
         reply : (mode : Mode) → Elsewhere x (replies x n mode s).network
         reply (Up v) = nowhere x
-        reply NeedsOpening = nowhere x
-        reply Down = nowhere x
+        reply _ = nowhere x
 
         member : (t : Bool)
             → Elsewhere x (cond t (replies x n (x.sites n).mode s) (nothing x)).network
@@ -530,34 +455,26 @@ module _ (slot : SlotName) where
         member false = nowhere x
     event_elsewhere x up (networks.Deliver number fate) h =
         rw h.1 (taken x h.0.to (Arrives (Some h.0.message)) h.2 fate h.3 (up h.0.to))
-    event_elsewhere x up (networks.Raw n) h =
-        taken x n (Arrives None) tt Whole (λ h. refl) (up n)
+    event_elsewhere x up (networks.Raw n) h = taken x n (Arrives None) tt Whole (λ h. refl) (up n)
     event_elsewhere x up (networks.Stop n) h = member (is_in q.members n)
       where
         stopped : (mode : Mode) → Elsewhere x (stops x n mode).network
-        stopped (Up v) = aside x n (record { records = records_at x n ++ []; mode = Down }) [] h
-            (λ d i. absurd (has_none i))
-        stopped NeedsOpening =
+        stopped Down = nowhere x
+        stopped _ =
             aside x n (record { records = records_at x n ++ []; mode = Down }) [] h
             (λ d i. absurd (has_none i))
-        stopped Down = nowhere x
 
-        member : (t : Bool)
-            → Elsewhere x (cond t (stops x n (x.sites n).mode) (nothing x)).network
+        member : (t : Bool) → Elsewhere x (cond t (stops x n (x.sites n).mode) (nothing x)).network
         member true = stopped (x.sites n).mode
         member false = nowhere x
     event_elsewhere x up (networks.Start n) h = member (is_in q.members n)
       where
         started : (mode : Mode) → (Has n running → ⊥) → Elsewhere x (starts x n mode).network
         started (Up v) not = nowhere x
-        started NeedsOpening not =
-            aside x n (record { records = records_at x n; mode = Up new_volatile }) [] not
-            (λ d i. absurd (has_none i))
-        started Down not =
+        started _ not =
             aside x n (record { records = records_at x n; mode = Up new_volatile }) [] not
             (λ d i. absurd (has_none i))
 
-        member : (t : Bool)
-            → Elsewhere x (cond t (starts x n (x.sites n).mode) (nothing x)).network
+        member : (t : Bool) → Elsewhere x (cond t (starts x n (x.sites n).mode) (nothing x)).network
         member true = started (x.sites n).mode h
         member false = nowhere x

@@ -1,9 +1,7 @@
 -- A deposit that waits is proposed in turn.
 use Rattle.std.proofs.Common.{ℕ, zero, suc, ◌≡◌, ◌≤◌, ◌<◌, ◌+◌, ◌-◌, ◌⊎◌, Bool, true, false, cond}
-use Rattle.std.proofs.Common.{inl, inr, refl, sym, ap, ◌∙◌, List, length, Option, None, Some}
-use Rattle.std.proofs.Common.{arith}
+use Rattle.std.proofs.Common.{inl, inr, refl, sym, ap, ◌∙◌, List, length, Option, None, Some, arith}
 use Rattle.std.specs.List.{find, range_with_len}
-use Rattle.std.specs.Option.{option_or}
 use Rattle.std.proofs.lemmas.Bool.{cases_eq, cases_lt}
 use Rattle.records.specs.declared.record.Record.{Record}
 use Rattle.udp_site.specs.Rounds.{waits, next_waiting}
@@ -21,11 +19,9 @@ module _ (test : ℕ → Bool) where
     most : first ≤ last
 
   -- the first number, or what is found of the later ones
-  choice : (from count : ℕ) (t : Bool) → test from ≡ t
-      → find test (range_with_len from (suc count))
+  choice : (from count : ℕ) (t : Bool) → test from ≡ t → find test (range_with_len from (suc count))
       ≡ cond t (Some from) (find test (range_with_len (from + 1) count))
-  choice from count t e =
-      ap (λ (t : Bool). cond t (Some from) (find test (range_with_len (from + 1) count))) e
+  choice from count t e = rw e refl
 
   at_once : (from count last : ℕ) → from ≤ last → test from ≡ true
       → Found from last (find test (range_with_len from (suc count)))
@@ -96,8 +92,7 @@ next_is rs from place is = go (cases_lt place from)
     within : place < length rs
     within = waits_within rs place is
 
-    second : place < from
-        → Found (waits rs) 0 place (find (waits rs) (range_with_len 0 (from - 0)))
+    second : place < from → Found (waits rs) 0 place (find (waits rs) (range_with_len 0 (from - 0)))
     second less = found (waits rs) 0 (from - 0) place (omega arith) (omega (arith, less)) is
 
     wraps : place < from → (o : Option ℕ)
@@ -106,10 +101,7 @@ next_is rs from place is = go (cases_lt place from)
         let r = in_range (waits rs) from (length rs - from) n e in
         record {
           next = n;
-          is =
-              next_of_two rs from
-              ∙ ap (λ (o : Option ℕ).
-              option_or o (find (waits rs) (range_with_len 0 (from - 0)))) e;
+          is = rw (next_of_two rs from, e) refl;
           passes = r.1;
           where_it_is = inr (less, inl r.0);
         }
@@ -117,18 +109,13 @@ next_is rs from place is = go (cases_lt place from)
         let f = second less in
         record {
           next = f.first;
-          is =
-              next_of_two rs from
-              ∙ ap (λ (o : Option ℕ).
-              option_or o (find (waits rs) (range_with_len 0 (from - 0)))) e
-              ∙ f.is;
+          is = rw (next_of_two rs from, e) f.is;
           passes = f.passes;
           where_it_is = inr (less, inr f.most);
         }
 
     go : (place < from) ⊎ (from ≤ place) → Next rs from place
-    go (inl less) =
-        wraps less (find (waits rs) (range_with_len from (length rs - from))) refl
+    go (inl less) = wraps less (find (waits rs) (range_with_len from (length rs - from))) refl
     go (inr low) =
         let l : place < length rs = within in
         let f : Found (waits rs) from place
@@ -136,10 +123,7 @@ next_is rs from place is = go (cases_lt place from)
         found (waits rs) from (length rs - from) place low (omega (arith, low, l)) is in
         record {
           next = f.first;
-          is =
-              next_of_two rs from
-              ∙ ap (λ (o : Option ℕ).
-              option_or o (find (waits rs) (range_with_len 0 (from - 0)))) f.is;
+          is = rw (next_of_two rs from, f.is) refl;
           passes = f.passes;
           where_it_is = inl (low, f.least, f.most);
         }

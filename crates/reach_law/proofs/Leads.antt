@@ -1,8 +1,7 @@
 -- From a network some events lead on, in which nothing fails, to one where all that run know a bag.
-use Rattle.std.proofs.Common.{◌⊎◌}
-use Rattle.std.proofs.Common.{ℕ, zero, suc, ◌≡◌, ◌≤◌, ◌<◌, ◌+◌, ◌*◌, Bool, true, false, ◌||◌}
-use Rattle.std.proofs.Common.{cond, inl, inr, refl, sym, ap, subst, ◌∙◌, List, [], ◌∷◌, ◌++◌}
-use Rattle.std.proofs.Common.{length, Option, None, Some, append-nil, arith, length-append, eq-eqb}
+use Rattle.std.proofs.Common.{◌⊎◌, ℕ, zero, suc, ◌≡◌, ◌≤◌, ◌<◌, ◌+◌, ◌*◌, Bool, true, false, ◌||◌}
+use Rattle.std.proofs.Common.{cond, inl, inr, refl, sym, ap, ◌∙◌, List, [], ◌∷◌, ◌++◌, length}
+use Rattle.std.proofs.Common.{Option, None, Some, append-nil, arith, length-append, eq-eqb}
 use Rattle.std.specs.Bool.{◌==◌}
 use Rattle.std.specs.Prelude.{IsSome, is_some, slice_get, ⊤}
 use Rattle.std.specs.Option.{option_to_list}
@@ -23,13 +22,13 @@ use Rattle.dgram.specs.Encoding.{body_from}
 use Rattle.proposer.specs.Proposals.{next_ballot}
 use Rattle.proposer.specs.VolatileStates.{VolatileState, new_volatile, hears, with_current}
 use Rattle.schedule.specs.declared.fate.Fate.TheVariants.{Whole}
-use Rattle.site.specs.Arrivals.{is_member, on_arrival, on_body}
+use Rattle.site.specs.Arrivals.{on_arrival, on_body}
 use Rattle.site.specs.Calls.{Input, Proposes, Recovers, Asks, Arrives, effect_of, on_propose}
 use Rattle.site.specs.Calls.{on_recover, on_ask, begins_ballot}
 use Rattle.site.specs.Effects.{Effect, Send, record_of, to_each, commits_and_sends}
 use Rattle.world_law.specs.Networks.{Mode, Up, Down, NeedsOpening, volatile_in, SiteState, Network}
-use Rattle.world_law.specs.Networks.{Event, Deliver, Start, datagram_at, nothing, reaches, takes}
-use Rattle.world_law.specs.Networks.{arrives, starts, outcome, happens, run}
+use Rattle.world_law.specs.Networks.{Event, Deliver, Start, datagram_at, takes, starts, outcome}
+use Rattle.world_law.specs.Networks.{happens, run}
 use Rattle.world_law.specs.Networks as networks
 use Rattle.reach_law.proofs.Words.{of_slot, about, to_site, to_each_has}
 use Rattle.reach_law.specs.Running.{records_at, volatile_at, HasVoteOrDeposit}
@@ -116,10 +115,10 @@ module _ (w : Network) (n : ℕ) (records : List Record) (mode : Mode) (sends : 
   made = record { records = records; mode = mode }
 
   at_itself : (went w n records mode sends).sites n ≡ made
-  at_itself = ap (λ (t : Bool). cond t made (w.sites n)) (eq-eqb n n refl)
+  at_itself = rw (eq-eqb n n refl) refl
 
   at_other : (k : ℕ) → (k ≡ n → ⊥) → (went w n records mode sends).sites k ≡ w.sites k
-  at_other k differ = ap (λ (t : Bool). cond t made (w.sites k)) (ne_eqb k n differ)
+  at_other k differ = rw (ne_eqb k n differ) refl
 
 took : (w : Network) (n : ℕ) (commits : Option Record) (volatile : VolatileState)
     (sends : List Send)
@@ -128,12 +127,10 @@ took : (w : Network) (n : ℕ) (commits : Option Record) (volatile : VolatileSta
 took w n commits volatile sends =
     let rs = records_at w n ++ option_to_list commits in
     let it = at_itself w n rs (Up volatile) sends in
-    let now : volatile_at (went w n rs (Up volatile) sends) n ≡ volatile =
-    ap (λ (s : SiteState). volatile_in s.mode) it in
     record {
       records = ap (λ (s : SiteState). s.records) it;
-      volatile_is = now;
-      up = ap (λ (s : SiteState). s.mode) it ∙ sym (ap Up now);
+      volatile_is = ap (λ (s : SiteState). volatile_in s.mode) it;
+      up = rw (it, volatile_at) refl;
       other = at_other w n rs (Up volatile) sends;
       sent = refl;
     }
@@ -145,10 +142,8 @@ pub took_stay : (P : List Record → Type 0) {w : Network} {n : ℕ} {commits : 
     → (P (records_at w n) → P (records_at w n ++ option_to_list commits))
     → (k : ℕ) → P (records_at w k) → P (records_at x k)
 took_stay P {w} {n} {x = x} t stays k old = elim (cases_eq k n) [
-  | inl same ↦
-      subst (λ (k : ℕ). P (records_at x k)) (sym same)
-      (subst P (sym t.records) (stays (subst (λ (k : ℕ). P (records_at w k)) same old)))
-  | inr differ ↦ subst (λ (s : SiteState). P s.records) (sym (t.other k differ)) old
+  | inl same ↦ rw same (rw t.records (stays (rw (← same) old)))
+  | inr differ ↦ rw (t.other k differ, records_at) old
 ]
 
 -- the same of its volatile state
@@ -157,42 +152,27 @@ pub took_volatile : (P : VolatileState → Type 0) {w : Network} {n : ℕ} {comm
     → Took w n commits volatile sends x → (P (volatile_at w n) → P volatile)
     → (k : ℕ) → P (volatile_at w k) → P (volatile_at x k)
 took_volatile P {w} {n} {x = x} t stays k old = elim (cases_eq k n) [
-  | inl same ↦
-      subst (λ (k : ℕ). P (volatile_at x k)) (sym same)
-      (subst P (sym t.volatile_is) (stays (subst (λ (k : ℕ). P (volatile_at w k)) same old)))
-  | inr differ ↦
-      subst (λ (s : SiteState). P (volatile_in s.mode)) (sym (t.other k differ)) old
+  | inl same ↦ rw same (rw t.volatile_is (stays (rw (← same) old)))
+  | inr differ ↦ rw (t.other k differ) old
 ]
 
-pub took_up : {w : Network} {n : ℕ} {commits : Option Record}
-    {volatile : VolatileState} {sends : List Send} {x : Network}
-    → Took w n commits volatile sends x → (k : ℕ) → IsUp w k → IsUp x k
-took_up {n = n} {x = x} t k old = elim (cases_eq k n) [
-  | inl same ↦ subst (IsUp x) (sym same) t.up
-  | inr differ ↦
-      subst (λ (s : SiteState). s.mode ≡ Up (volatile_in s.mode)) (sym (t.other k differ)) old
-]
+module _ {w : Network} {n : ℕ} {commits : Option Record} {volatile : VolatileState}
+    {sends : List Send} {x : Network} (t : Took w n commits volatile sends x) where
+  pub took_up : (k : ℕ) → IsUp w k → IsUp x k
+  took_up k old = elim (cases_eq k n) [
+    | inl same ↦ rw same t.up
+    | inr differ ↦ rw (t.other k differ) old
+  ]
 
-pub took_later : {w : Network} {n : ℕ} {commits : Option Record}
-    {volatile : VolatileState} {sends : List Send} {x : Network}
-    → Took w n commits volatile sends x → (before : ℕ) → before ≤ length w.sent
-    → before ≤ length x.sent
-took_later {w} {sends = sends} t before l =
-    rw t.sent (omega (arith, length-append w.sent sends))
+  pub took_later : (before : ℕ) → before ≤ length w.sent → before ≤ length x.sent
+  took_later before l = rw t.sent (omega (arith, length-append w.sent sends))
 
-pub took_fresh : {w : Network} {n : ℕ} {commits : Option Record}
-    {volatile : VolatileState} {sends : List Send} {x : Network}
-    → Took w n commits volatile sends x → (before : ℕ) (d : Send) → Fresh before w.sent d
-    → Fresh before x.sent d
-took_fresh {w} {sends = sends} t before d f =
-    rw t.sent (fresh_stays before w.sent sends d f)
+  pub took_fresh : (before : ℕ) (d : Send) → Fresh before w.sent d → Fresh before x.sent d
+  took_fresh before d f = rw t.sent (fresh_stays before w.sent sends d f)
 
-pub took_new : {w : Network} {n : ℕ} {commits : Option Record}
-    {volatile : VolatileState} {sends : List Send} {x : Network}
-    → Took w n commits volatile sends x → (before : ℕ) (d : Send) → before ≤ length w.sent
-    → Has d sends → Fresh before x.sent d
-took_new {w} {sends = sends} t before d l h =
-    rw t.sent (fresh_new before w.sent sends d l h)
+  pub took_new : (before : ℕ) (d : Send) → before ≤ length w.sent → Has d sends
+      → Fresh before x.sent d
+  took_new before d l h = rw t.sent (fresh_new before w.sent sends d l h)
 
 -- a site is opened, or was up
 pub record Opened (w : Network) (n : ℕ) (x : Network) : Type 0 where
@@ -223,8 +203,7 @@ has_one_of false t (inr h) = h
 -- to another one
 abbrev pub IsBrought : SlotName → Network → Event → Type 0
 IsBrought slot w (networks.Propose n s fate) = ⊥
-IsBrought slot w (networks.Ask n m s fate) =
-    (known_of slot (records_at w n) ≡ None) × (n ≡ m → ⊥)
+IsBrought slot w (networks.Ask n m s fate) = (known_of slot (records_at w n) ≡ None) × (n ≡ m → ⊥)
 IsBrought slot w e = ⊤
 
 -- each of them, one after another
@@ -243,8 +222,7 @@ module _ (q : QuorumSystem) (running : List ℕ) (slot : SlotName) (before : ℕ
     pub few : length events ≤ most
     pub calm : AreCalm q running slot before w events
     pub brought : AreBrought q slot w events
-    pub known : (n : ℕ) → Has n running
-        → IsSome (known_of slot (records_at (run q w events) n))
+    pub known : (n : ℕ) → Has n running → IsSome (known_of slot (records_at (run q w events) n))
 
   pub leads_more : (w : Network) (k l : ℕ) → k ≤ l → Leads w k → Leads w l
   leads_more w k l more r = record {
@@ -306,71 +284,49 @@ module _ (q : QuorumSystem) (running : List ℕ) (slot : SlotName) (before : ℕ
         → (takes q w n input Whole).network
         ≡ went w n (records_at w n ++ option_to_list e.commits) (Up e.volatile) e.sends
     unfolding outcome
-    takes_whole w n input e h up is =
-        ap (λ (t : Bool).
-        (cond t (reaches q w n (w.sites n).mode input Whole) (nothing w)).network)
-        ((is_in_decides q.members n).1 (members n h))
-        ∙ ap (λ (m : Mode). (reaches q w n m input Whole).network) up
-        ∙ ap (λ (e : Effect).
-        went w n (records_at w n ++ option_to_list e.commits) (Up e.volatile) e.sends) is
+    takes_whole w n input e h up is = rw ((is_in_decides q.members n).1 (members n h), up, is) refl
 
     leads_to : (w : Network) (n : ℕ) (event : Event) (e : Effect) (k : ℕ)
-        → IsCalm running slot before w event → IsBrought slot w event
-        → (happens q w event).network
+        → IsCalm running slot before w event → IsBrought slot w event → (happens q w event).network
         ≡ went w n (records_at w n ++ option_to_list e.commits) (Up e.volatile) e.sends
-        → ((x : Network) → Took w n e.commits e.volatile e.sends x → Leads x k)
-        → Leads w (1 + k)
+        → ((x : Network) → Took w n e.commits e.volatile e.sends x → Leads x k) → Leads w (1 + k)
     leads_to w n event e k calm brought same next =
         leads_after w event k calm brought
         (rw same (next _ (took w n e.commits e.volatile e.sends)))
 
-    -- a datagram arrives, of a member
+    -- the datagram of a number arrives, of a member
+    delivered : (w : Network) (n from : ℕ) (body : Body) (e : Effect) (number : ℕ)
+        → Has n running → IsUp w n → datagram_at number w.sent ≡ Some (to_site n slot body)
+        → body_from body ≡ Some from → Has from q.members
+        → on_body q n (records_at w n) (volatile_at w n) (hears (volatile_at w n) (about slot body))
+        slot body ≡ e
+        → (happens q w (Deliver number Whole)).network
+        ≡ went w n (records_at w n ++ option_to_list e.commits) (Up e.volatile) e.sends
+    unfolding happens on_arrival
+    delivered w n from body e number h up at by member is =
+        rw at (takes_whole w n (Arrives (Some (about slot body))) e h up
+        (rw (by, (is_in_decides q.members from).1 member) is))
+
     pub deliver_leads : (w : Network) (n from : ℕ) (body : Body) (e : Effect) (k : ℕ)
         → Has n running → IsUp w n → Fresh before w.sent (to_site n slot body)
         → body_from body ≡ Some from → Has from q.members
         → on_body q n (records_at w n) (volatile_at w n) (hears (volatile_at w n) (about slot body))
         slot body ≡ e
-        → ((x : Network) → Took w n e.commits e.volatile e.sends x → Leads x k)
-        → Leads w (1 + k)
-    unfolding happens on_arrival
+        → ((x : Network) → Took w n e.commits e.volatile e.sends x → Leads x k) → Leads w (1 + k)
     deliver_leads w n from body e k h up fresh by member is next =
         leads_to w n (Deliver fresh.0 Whole) e k
         (fresh.1, refl, (to_site n slot body, fresh.2, h)) tt
-        (ap (λ (o : Option Send). (arrives q w o Whole).network) fresh.2
-        ∙ takes_whole w n (Arrives (Some (about slot body))) e h up heard) next
-      where
-        drops : Effect
-        drops = on_arrival q n (records_at w n) (volatile_at w n) None
+        (delivered w n from body e fresh.0 h up fresh.2 by member is) next
 
-        heard : on_arrival q n (records_at w n) (volatile_at w n) (Some (about slot body)) ≡ e
-        heard =
-            ap (λ (t : Bool).
-            cond t (on_body q n (records_at w n) (volatile_at w n)
-            (hears (volatile_at w n) (about slot body)) slot body) drops)
-            (ap (is_member q) by ∙ (is_in_decides q.members from).1 member)
-            ∙ is
-
-    -- the datagram of a number arrives
     pub deliver_took : (w : Network) (n from : ℕ) (body : Body) (e : Effect) (number : ℕ)
         → Has n running → IsUp w n → datagram_at number w.sent ≡ Some (to_site n slot body)
         → body_from body ≡ Some from → Has from q.members
         → on_body q n (records_at w n) (volatile_at w n) (hears (volatile_at w n) (about slot body))
         slot body ≡ e
         → Took w n e.commits e.volatile e.sends (happens q w (Deliver number Whole)).network
-    unfolding happens on_arrival
     deliver_took w n from body e number h up at by member is =
-        rw (ap (λ (o : Option Send). (arrives q w o Whole).network) at
-        ∙ takes_whole w n (Arrives (Some (about slot body))) e h up heard)
+        rw (delivered w n from body e number h up at by member is)
         (took w n e.commits e.volatile e.sends)
-      where
-        heard : on_arrival q n (records_at w n) (volatile_at w n) (Some (about slot body)) ≡ e
-        heard =
-            ap (λ (t : Bool).
-            cond t (on_body q n (records_at w n) (volatile_at w n)
-            (hears (volatile_at w n) (about slot body)) slot body)
-            (on_arrival q n (records_at w n) (volatile_at w n) None))
-            (ap (is_member q) by ∙ (is_in_decides q.members from).1 member)
-            ∙ is
 
     -- what a datagram asks of a site, it answers to the one that asked
     pub answered_leads : (w : Network) (n p : ℕ) (asking answer : Body) (kept : Option Entry)
@@ -464,38 +420,19 @@ module _ (q : QuorumSystem) (running : List ℕ) (slot : SlotName) (before : ℕ
 
       is_opened : volatile_at w n ≡ new_volatile → Opened w n open_now
       is_opened lost =
-          let it = at_itself w n (records_at w n) (Up new_volatile) [] in
-          let now : volatile_at open_now n ≡ new_volatile =
-          ap (λ (s : SiteState). volatile_in s.mode) it in
+          let t : Took w n None new_volatile [] open_now =
+          rw (← append-nil (records_at w n)) (took w n None new_volatile []) in
           record {
-            up = up_now;
-            stays = λ k old. elim (cases_eq k n) [
-              | inl same ↦ subst (IsUp open_now) (sym same) up_now
-              | inr differ ↦
-                  rw (at_other w n (records_at w n) (Up new_volatile) [] k differ) old
-            ];
-            records = λ k. elim (cases_eq k n) [
-              | inl same ↦
-                  rw same (ap (λ (s : SiteState). s.records) it)
-              | inr differ ↦
-                  ap (λ (s : SiteState). s.records)
-                  (at_other w n (records_at w n) (Up new_volatile) [] k differ)
-            ];
-            volatile = λ k. elim (cases_eq k n) [
-              | inl same ↦
-                  rw same (now ∙ sym lost)
-              | inr differ ↦
-                  ap (λ (s : SiteState). volatile_in s.mode)
-                  (at_other w n (records_at w n) (Up new_volatile) [] k differ)
-            ];
+            up = t.up;
+            stays = took_up t;
+            records = λ k.
+                took_stay (λ (rs : List Record). rs ≡ records_at w k) t
+                (λ e. append-nil (records_at w n) ∙ e) k refl;
+            volatile = λ k.
+                took_volatile (λ (v : VolatileState). v ≡ volatile_at w k) t
+                (λ e. sym lost ∙ e) k refl;
             sent = append-nil w.sent;
           }
-        where
-          up_now : IsUp open_now n
-          up_now =
-              let it = at_itself w n (records_at w n) (Up new_volatile) [] in
-              ap (λ (s : SiteState). s.mode) it
-              ∙ sym (ap (λ (s : SiteState). Up (volatile_in s.mode)) it)
 
       pub open_leads : (k : ℕ) → Has n running
           → ((x : Network) → Opened w n x → Leads x k) → Leads w (1 + k)
@@ -507,10 +444,7 @@ module _ (q : QuorumSystem) (running : List ℕ) (slot : SlotName) (before : ℕ
               → Leads w (1 + k)
           opening mode is same lost =
               leads_after w (Start n) k h tt
-              (rw (
-              ap (λ (t : Bool). (cond t (starts w n (w.sites n).mode) (nothing w)).network)
-              ((is_in_decides q.members n).1 (members n h))
-              ∙ ap (λ (m : Mode). (starts w n m).network) is ∙ same)
+              (rw ((is_in_decides q.members n).1 (members n h), is, same)
               (next open_now (is_opened (ap volatile_in is ∙ lost))))
 
           go : (mode : Mode) → (w.sites n).mode ≡ mode → Leads w (1 + k)

@@ -13,8 +13,7 @@ module _ (records : ℕ → List Record) (tried : ℕ → ℕ) (place : ℕ) whe
   in_turn (suc (suc turn)) less is = absurd (omega (arith, less))
 
 pub each_of_two : (records : ℕ → List Record) (tried : ℕ → ℕ) (place : ℕ)
-    → AreProposingTurns records tried → Waits records place 2
-    → IsNextOrAfter records tried place
+    → AreProposingTurns records tried → Waits records place 2 → IsNextOrAfter records tried place
 each_of_two records tried place turns waits =
     let r = proposed_in_turn records tried place 2 turns waits in
     in_turn records tried place r.0 r.1 r.2

@@ -1,4 +1,5 @@
--- The example of a ballot of two sites while calls and datagrams of another version go on, computed.
+-- The example of a ballot of two sites while calls and datagrams of another version go on,
+-- computed.
 use Rattle.std.proofs.Common.{ℕ, ◌≡◌, ◌<◌, refl, ap, inr, List, [], ◌∷◌, ◌++◌, arith}
 use Rattle.fed_types.specs.Ballots.{ballot_cmp}
 use Rattle.fed_types.specs.Lists.{Has, is_in}
@@ -79,7 +80,8 @@ undisturbed_by_others = record {
                               (
                                 inr (prepare_to 3, refl, apart, λ h. absurd (isnt_third h)),
                                 undisturbed_each three running a
-                                    (run three (begun three deposited a 1) (at_two ++ at_third)) numbers refl,
+                                    (run three (begun three deposited a 1) (at_two ++ at_third))
+                                    numbers refl,
                               ),
                             ),
                           ),

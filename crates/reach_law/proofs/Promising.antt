@@ -1,10 +1,11 @@
 -- A site recovers in a ballot above all that was promised: those that run promise it, and the site
 -- asks for votes.
-use Rattle.std.proofs.Common.{ℕ, ◌≡◌, ◌≤◌, ◌+◌, ◌⊎◌, Bool, true, false, cond, not, ◌&&◌, inl, inr}
-use Rattle.std.proofs.Common.{refl, sym, ap, subst, ◌∙◌, List, [], ◌∷◌, ◌++◌, length, map, drop}
-use Rattle.std.proofs.Common.{Option, None, Some, append-nil, arith}
+use Rattle.std.proofs.Common.{ℕ, ◌≡◌, ◌≤◌, ◌+◌, ◌⊎◌, Bool, true, false, cond, inl, inr, refl, sym}
+use Rattle.std.proofs.Common.{ap, subst, ◌∙◌, List, [], ◌∷◌, ◌++◌, length, Option, None, Some}
+use Rattle.std.proofs.Common.{append-nil, arith}
 use Rattle.std.specs.Prelude.{IsSome}
-use Rattle.std.proofs.lemmas.Bool.{cases_eq, false≢true}
+use Rattle.std.proofs.lemmas.List.{drop_all}
+use Rattle.std.proofs.lemmas.Bool.{cases_eq}
 use Rattle.fed_types.specs.declared.bag_id.BagId.{BagId}
 use Rattle.fed_types.specs.declared.vote.Vote.{Vote}
 use Rattle.fed_types.specs.Ballots.{BallotNumber, Below}
@@ -17,26 +18,25 @@ use Rattle.fed_types.specs.Laws.Slots.{same_slot_decides}
 use Rattle.records.specs.declared.entry.Entry.TheVariants as entry
 use Rattle.records.specs.declared.record.Record.{Record}
 use Rattle.records.specs.SlotStates.{vote_in, promised_of, vote_of, deposit_of, known_of}
+use Rattle.dgram.specs.declared.body.Body.{Body}
+use Rattle.dgram.specs.Heard.{promise_in, bodies_of, promises_for, PromiseFrom, promisers}
 use Rattle.dgram.specs.declared.body.Body.TheVariants.{Prepare, Promise, Accept}
-use Rattle.dgram.specs.Heard.{bodies_of, promises_for, PromiseFrom, promisers}
-use Rattle.acceptor.specs.declared.decision.Decision.{Decision}
 use Rattle.proposer.specs.Proposals.{Current, gathered, highest_prior, bag_of, completes, proposal}
 use Rattle.proposer.specs.Proposals.{ready}
 use Rattle.proposer.specs.VolatileStates.{VolatileState, hears, with_current}
-use Rattle.site.specs.Arrivals.{decided, proposing, on_body}
+use Rattle.site.specs.Arrivals.{proposing, on_body}
 use Rattle.site.specs.Effects.{Effect, Send, to_each, commits_and_sends}
 use Rattle.world_law.specs.Networks.{Network}
 use Rattle.world_law.proofs.Heard.{gathered_promise, gathered_stays, highest_prior_is}
-use Rattle.reach_law.proofs.Words.{of_slot, said_self, vote_silent}
-use Rattle.reach_law.proofs.Words.{some_of, deposit_stays, has_stays, promised_now, vote_below}
-use Rattle.reach_law.proofs.Words.{about}
+use Rattle.reach_law.proofs.Words.{not_completed, of_slot, said_self, vote_silent, some_of}
+use Rattle.reach_law.proofs.Words.{deposit_stays, has_stays, promised_now, vote_below, about}
 use Rattle.reach_law.proofs.Words.{gathered_quiet, longer, to_site, to_each_has}
-use Rattle.reach_law.proofs.Leads.{IsUp, Fresh, Took, took_stay, took_volatile, took_up}
-use Rattle.reach_law.proofs.Leads.{took_later, took_fresh, took_new, spent, spent_is, Leads, each}
-use Rattle.reach_law.proofs.Leads.{leads_more, answered_leads, recover_leads}
+use Rattle.reach_law.proofs.Leads.{IsUp, Fresh, Took, took_stay, took_volatile, took_up, took_later}
+use Rattle.reach_law.proofs.Leads.{took_fresh, took_new, spent, spent_is, Leads, each, leads_more}
+use Rattle.reach_law.proofs.Leads.{answered_leads, recover_leads}
 use Rattle.reach_law.proofs.Discovering.{sending, promise_if, last, Seen, Room, ballot, next_is}
 use Rattle.reach_law.proofs.Discovering.{begun_asked, begun_has, begun_promised}
-use Rattle.reach_law.specs.Running.{records_at, volatile_at, HasVoteOrDeposit}
+use Rattle.reach_law.specs.Running.{AreMembers, records_at, volatile_at, HasVoteOrDeposit}
 
 -- one of a list, and the others
 record Front (x : ℕ) (xs : List ℕ) : Type 0 where
@@ -50,19 +50,19 @@ front {x} (y ∷ xs) (here e) = record {
   rest = xs;
   count = omega arith;
   among = λ n h. there h;
-  cases = λ n h. first n h;
+  cases = cases;
 }
   where
-    first : (n : ℕ) → Has n (y ∷ xs) → (n ≡ x) ⊎ Has n xs
-    first n (here f) = inl (sym f ∙ e)
-    first n (there h) = inr h
+    cases : (n : ℕ) → Has n (y ∷ xs) → (n ≡ x) ⊎ Has n xs
+    cases n (here f) = inl (cc (e, f))
+    cases n (there h) = inr h
 front {x} (y ∷ xs) (there h) =
     let f = front xs h in
     record {
       rest = y ∷ f.rest;
-      count = let count = f.count in omega (arith, count);
-      among = λ n h. among f n h;
-      cases = λ n h. cases f n h;
+      count = omega (arith, f.count);
+      among = among f;
+      cases = cases f;
     }
   where
     among : (f : Front x xs) (n : ℕ) → Has n (y ∷ f.rest) → Has n (y ∷ xs)
@@ -77,13 +77,29 @@ front {x} (y ∷ xs) (there h) =
     ]
 front [] h = absurd (has_none h)
 
+-- a body that is no promise leaves what a site has gathered
+pub gathered_same : (slot : SlotName) (c : Current) (p : ℕ) (body : Body) {w x : Network} {n : ℕ}
+    {commits : Option Record} {sends : List Send}
+    → Took w n commits (hears (volatile_at w n) (about slot body)) sends x
+    → c.heard_before ≤ length (volatile_at w p).heard → promise_in c.ballot body ≡ None
+    → gathered slot c (volatile_at x p).heard ≡ gathered slot c (volatile_at w p).heard
+gathered_same slot c p body {w} {x} {n} t within none =
+    (took_volatile
+    (λ (s : VolatileState).
+    (c.heard_before ≤ length s.heard)
+    × (gathered slot c s.heard ≡ gathered slot c (volatile_at w p).heard)) t
+    (λ l. (
+      longer (volatile_at w n).heard (about slot body) c.heard_before l.0,
+      gathered_quiet slot (volatile_at w n).heard body c l.0 none ∙ l.1,
+    ))
+    p (within, refl)).1
+
 abbrev pub vote_for : BallotNumber → BagId → Vote
 vote_for b bag = record { ballot = b; bag = bag }
 
-module _ (q : QuorumSystem) (laws : AreQuorums q) (running : List ℕ) (slot : SlotName)
-    (before : ℕ) (members : (n : ℕ) → Has n running → Has n q.members)
-    (quorum : IsQuorum q running) (p : ℕ) (runs : Has p running) (b : BallotNumber)
-    (mine : b.site ≡ p) (old : ℕ) where
+module _ (q : QuorumSystem) (laws : AreQuorums q) (running : List ℕ) (slot : SlotName) (before : ℕ)
+    (members : AreMembers q running) (quorum : IsQuorum q running) (p : ℕ) (runs : Has p running)
+    (b : BallotNumber) (mine : b.site ≡ p) (old : ℕ) where
   abbrev pub current : Current
   current = record { ballot = b; heard_before = old }
 
@@ -110,8 +126,7 @@ module _ (q : QuorumSystem) (laws : AreQuorums q) (running : List ℕ) (slot : S
     pub up : (n : ℕ) → Has n running → IsUp w n
     pub later : before ≤ length w.sent
     pub has : HasVoteOrDeposit slot (records_at w p)
-    pub asked : (n : ℕ) → Has n running
-        → Fresh before w.sent (to_site n slot (Prepare b))
+    pub asked : (n : ℕ) → Has n running → Fresh before w.sent (to_site n slot (Prepare b))
     pub is_current : (volatile_at w p).current slot ≡ Some current
     pub within : old ≤ length (volatile_at w p).heard
     pub each_one : (n : ℕ) → Has n running → Waits n w ⊎ HasPromised n w
@@ -119,9 +134,8 @@ module _ (q : QuorumSystem) (laws : AreQuorums q) (running : List ℕ) (slot : S
 
   -- ---- a promise more
 
-  module _ (w x y : Network) (n : ℕ) (h : Has n running) (v : Option Vote)
-      (sends sends' : List Send) (g : Gathering w) (waits : Waits n w)
-      (is_vote : vote_of slot (records_at w n) ≡ v)
+  module _ {w x y : Network} {n : ℕ} {sends sends' : List Send} (v : Option Vote)
+      (g : Gathering w) (waits : Waits n w)
       (t : Took w n (Some (of_slot slot (entry.Promise b)))
       (hears (volatile_at w n) (about slot (Prepare b))) sends x)
       (u : Took x p None (hears (volatile_at x p) (about slot (Promise n b v))) sends' y) where
@@ -129,8 +143,7 @@ module _ (q : QuorumSystem) (laws : AreQuorums q) (running : List ℕ) (slot : S
     from = record { site = n; prior = v }
 
     same_records : (P : List Record → Type 0) (k : ℕ) → P (records_at x k) → P (records_at y k)
-    same_records P k =
-        took_stay P u (λ h. subst P (sym (append-nil (records_at x p))) h) k
+    same_records P k = took_stay P u (λ h. subst P (sym (append-nil (records_at x p))) h) k
 
     within_then : old ≤ length (volatile_at x p).heard
     within_then =
@@ -138,21 +151,15 @@ module _ (q : QuorumSystem) (laws : AreQuorums q) (running : List ℕ) (slot : S
         (λ l. longer (volatile_at w n).heard (about slot (Prepare b)) old l) p g.within
 
     gathered_then : gathered_at x ≡ gathered_at w
-    gathered_then =
-        (took_volatile
-        (λ (s : VolatileState).
-        (old ≤ length s.heard) × (gathered slot current s.heard ≡ gathered_at w)) t
-        (λ l. (
-          longer (volatile_at w n).heard (about slot (Prepare b)) old l.0,
-          gathered_quiet slot (volatile_at w n).heard (Prepare b) current l.0 refl ∙ l.1,
-        ))
-        p (g.within, refl)).1
+    gathered_then = gathered_same slot current p (Prepare b) t g.within refl
 
     gathered_now : gathered_at y ≡ gathered_at w ++ from ∷ []
     gathered_now =
-        ap (λ (s : VolatileState). gathered slot current s.heard) u.volatile_is
-        ∙ gathered_promise slot current (volatile_at x p).heard n v within_then
-        ∙ ap (λ (ps : List PromiseFrom). ps ++ from ∷ []) gathered_then
+        rw (
+          u.volatile_is,
+          gathered_promise slot current (volatile_at x p).heard n v within_then,
+          gathered_then,
+        ) refl
 
     heard_stays : (m : ℕ) → Has m (promisers (gathered_at w)) → Has m (promisers (gathered_at y))
     heard_stays m has =
@@ -169,8 +176,7 @@ module _ (q : QuorumSystem) (laws : AreQuorums q) (running : List ℕ) (slot : S
 
     other_records : (P : List Record → Type 0) (m : ℕ) → (m ≡ n → ⊥) → P (records_at w m)
         → P (records_at y m)
-    other_records P m differ old_one =
-        same_records P m (subst (λ s. P s.records) (sym (t.other m differ)) old_one)
+    other_records P m differ old_one = same_records P m (rw (t.other m differ, records_at) old_one)
 
     promises_now : HasPromised n y
     promises_now = record {
@@ -241,9 +247,7 @@ module _ (q : QuorumSystem) (laws : AreQuorums q) (running : List ℕ) (slot : S
           took_volatile (λ (s : VolatileState). old ≤ length s.heard) u
           (λ l. longer (volatile_at x p).heard (about slot (Promise n b v)) old l) p within_then;
       each_one = each_stays;
-      ready = λ e.
-          asks
-          (rw (← gathered_now) e);
+      ready = λ e. asks (rw (← gathered_now) e);
     }
 
   -- ---- what the site makes of it
@@ -260,11 +264,6 @@ module _ (q : QuorumSystem) (laws : AreQuorums q) (running : List ℕ) (slot : S
   bag_is own (Some v) h = (v.bag, refl)
   bag_is own None (inl some) = some_of own some
   bag_is own None (inr none) = absurd (cc none)
-
-  completed : (t u : Bool) → (t && not u) ≡ false → t ≡ true → u ≡ true
-  completed true true e f = refl
-  completed true false e f = absurd (false≢true (sym e))
-  completed false u e f = absurd (false≢true f)
 
   module _ (n : ℕ) (h : Has n running) (w : Network) (g : Gathering w) (waits : Waits n w)
       (k : ℕ)
@@ -292,47 +291,30 @@ module _ (q : QuorumSystem) (laws : AreQuorums q) (running : List ℕ) (slot : S
         (hears (volatile_at w n) (about slot (Prepare b)))
         (to_each slot (Promise n b v) (p ∷ [])) x
 
-    ready_is : (x : Network) → First x → (t : Bool)
-        → completes q (gathered_at x) from_n ≡ t
+    ready_is : (x : Network) → First x → (t : Bool) → completes q (gathered_at x) from_n ≡ t
         → ready q (deposit_of slot (records_at x p)) slot ((volatile_at x p).current slot)
         (volatile_at x p).heard b from_n
         ≡ cond t (bag_of (highest_prior (gathered_at x ++ from_n ∷ []))
         (deposit_of slot (records_at x p))) None
     unfolding proposal
     ready_is x t c e =
-        ap (λ (c : Option Current).
-        ready q (deposit_of slot (records_at x p)) slot c (volatile_at x p).heard b from_n)
-        (took_volatile (λ (s : VolatileState). s.current slot ≡ Some current) t (λ e. e) p
-        g.is_current)
-        ∙ ap (λ (t : Bool).
-        cond t (proposal q (deposit_of slot (records_at x p)) (gathered_at x) from_n) None)
-        ((same_ballot_decides b b).1 refl)
-        ∙ ap (λ (t : Bool).
-        cond t (bag_of (highest_prior (gathered_at x ++ from_n ∷ []))
-        (deposit_of slot (records_at x p))) None) e
+        rw (
+          took_volatile (λ (s : VolatileState). s.current slot ≡ Some current) t (λ e. e) p
+              g.is_current,
+          (same_ballot_decides b b).1 refl,
+          e,
+        ) refl
 
     -- there is a bag once this promise is heard
     bag_then : (x : Network) → First x
         → HasBag (deposit_of slot (records_at x p)) (gathered_at x ++ from_n ∷ [])
-    bag_then x t =
-        rw (took_gathered x t) (bag x t)
-      where
-        took_gathered : (x : Network) → First x → gathered_at x ≡ gathered_at w
-        took_gathered x t =
-            (took_volatile
-            (λ (s : VolatileState).
-            (old ≤ length s.heard) × (gathered slot current s.heard ≡ gathered_at w)) t
-            (λ l. (
-              longer (volatile_at w n).heard (about slot (Prepare b)) old l.0,
-              gathered_quiet slot (volatile_at w n).heard (Prepare b) current l.0 refl ∙ l.1,
-            ))
-            p (g.within, refl)).1
+    bag_then x t = rw (gathered_same slot current p (Prepare b) t g.within refl) (bag x t)
 
     bag_now : (x y : Network) (sends : List Send) → (t : First x)
         → Took x p None (heard_at x) sends y → HasBagAt y
     bag_now x y sends t u =
-        rw (gathered_now w x y n h v _ sends g waits refl t u)
-        (same_records w x y n h v _ sends g waits refl t u
+        rw (gathered_now v g waits t u)
+        (same_records v g waits t u
         (λ (rs : List Record). HasBag (deposit_of slot rs) (gathered_at w ++ from_n ∷ [])) p
         (bag x t))
 
@@ -344,12 +326,10 @@ module _ (q : QuorumSystem) (laws : AreQuorums q) (running : List ℕ) (slot : S
         × ((y : Network) → Took x p e.commits e.volatile e.sends y
         → Leads q running slot before y k)
 
-    then : (x : Network)
-        → Took w n (Some (of_slot slot (entry.Promise b)))
+    then : (x : Network) → Took w n (Some (of_slot slot (entry.Promise b)))
         (hears (volatile_at w n) (about slot (Prepare b)))
         (to_each slot (Promise n b v) (p ∷ [])) x
-        → (t : Bool)
-        → completes q (gathered_at x) (record { site = n; prior = v }) ≡ t
+        → (t : Bool) → completes q (gathered_at x) (record { site = n; prior = v }) ≡ t
         → Continues x
     unfolding on_body
     then x t true e =
@@ -357,11 +337,10 @@ module _ (q : QuorumSystem) (laws : AreQuorums q) (running : List ℕ) (slot : S
         bag_is (deposit_of slot (records_at x p)) (highest_prior (gathered_at x ++ from_n ∷ []))
         (bag_then x t) in (
           commits_and_sends slot None (Accept (vote_for b f.0)) q.members (heard_at x),
-          ap (λ (o : Option BagId). proposing q slot b o (heard_at x))
-              (ready_is x t true e ∙ f.1),
+          ap (λ (o : Option BagId). proposing q slot b o (heard_at x)) (ready_is x t true e ∙ f.1),
           λ y u.
               next y
-              (gathering_stays w x y n h v _ _ g waits refl t u
+              (gathering_stays v g waits t u
               (λ quorum. record {
                 bag = f.0;
                 asked = λ m h'.
@@ -369,25 +348,24 @@ module _ (q : QuorumSystem) (laws : AreQuorums q) (running : List ℕ) (slot : S
                     (to_each_has slot _ q.members m (members m h'));
               }))
               (bag_now x y _ t u)
-              (promises_now w x y n h v _ _ g waits refl t u)
-              (promises_stay w x y n h v _ _ g waits refl t u),
+              (promises_now v g waits t u)
+              (promises_stay v g waits t u),
         )
     then x t false e = (
       sending [] (heard_at x),
       ap (λ (o : Option BagId). proposing q slot b o (heard_at x)) (ready_is x t false e),
       λ y u.
           next y
-          (gathering_stays w x y n h v _ _ g waits refl t u
+          (gathering_stays v g waits t u
           (λ quorum.
-          let same = gathered_then w x y n h v _ _ g waits refl t u in
-          asked_stays w x y n h v _ _ g waits refl t u
+          let same = gathered_then v g waits t u in
+          asked_stays v g waits t u
           (g.ready
-          (rw (← same) (completed (q.is_quorum (promisers (gathered_at x ++ from_n ∷ [])))
-          (q.is_quorum (promisers (gathered_at x))) e
+          (rw (← same) (not_completed _ (q.is_quorum (promisers (gathered_at x))) e
           (rw same quorum))))))
           (bag_now x y _ t u)
-          (promises_now w x y n h v _ _ g waits refl t u)
-          (promises_stay w x y n h v _ _ g waits refl t u),
+          (promises_now v g waits t u)
+          (promises_stay v g waits t u),
     )
 
     asks : Leads q running slot before w (2 + k)
@@ -396,11 +374,7 @@ module _ (q : QuorumSystem) (laws : AreQuorums q) (running : List ℕ) (slot : S
         answered_leads q running slot before members w n p (Prepare b) (Promise n b v)
         (Some (entry.Promise b)) (p ∷ []) k h runs (g.up n h) (g.up p runs) g.later
         (g.asked n h) (ap Some mine) refl (here refl)
-        (ap (λ (d : Decision).
-        decided q n slot b.site d (hears (volatile_at w n) (about slot (Prepare b))))
-        (promise_if slot (records_at w n) b waits)
-        ∙ ap (λ (k : ℕ). commits_and_sends slot (Some (entry.Promise b)) (Promise n b v)
-        (k ∷ []) (hears (volatile_at w n) (about slot (Prepare b)))) mine)
+        (rw (promise_if slot (records_at w n) b waits, mine) refl)
         (λ x t. then x t (completes q (gathered_at x) (record { site = n; prior = v })) refl)
 
   -- ---- each in turn, the site itself first: its promise names its vote
@@ -500,8 +474,7 @@ module _ (q : QuorumSystem) (laws : AreQuorums q) (running : List ℕ) (slot : S
       f = front running runs
 
       all_promised : (y : Network) → HasPromised p y
-          → ((n : ℕ) → Has n f.rest → HasPromised n y) → (n : ℕ) → Has n running
-          → HasPromised n y
+          → ((n : ℕ) → Has n f.rest → HasPromised n y) → (n : ℕ) → Has n running → HasPromised n y
       all_promised y first rest n h = elim (f.cases n h) [
         | inl same ↦ rw same first
         | inr later ↦ rest n later
@@ -509,81 +482,59 @@ module _ (q : QuorumSystem) (laws : AreQuorums q) (running : List ℕ) (slot : S
 
 -- ---- the second recovery
 
-drop_all : {X : Type 0} (xs : List X) → drop (length xs) xs ≡ []
-drop_all [] = refl
-drop_all (x ∷ xs) = drop_all xs
+pub none_gathered : (slot : SlotName) (b : BallotNumber) (heard : List _)
+    → promisers (gathered slot (record { ballot = b; heard_before = length heard }) heard) ≡ []
+unfolding gathered bodies_of promises_for promisers
+none_gathered slot b heard = rw (drop_all (length heard) heard (omega arith)) refl
 
-module _ (q : QuorumSystem) (laws : AreQuorums q) (running : List ℕ) (slot : SlotName)
-    (before : ℕ) (members : (n : ℕ) → Has n running → Has n q.members)
-    (quorum : IsQuorum q running) (p : ℕ) (runs : Has p running) where
-  pub none_gathered : (b : BallotNumber) (heard : List _)
-      → promisers (gathered slot (record { ballot = b; heard_before = length heard }) heard) ≡ []
-  unfolding gathered bodies_of promises_for promisers
-  none_gathered b heard =
-      ap (λ ms. map (λ (p : PromiseFrom). p.site) (promises_for b (bodies_of slot ms)))
-      (drop_all heard)
+module _ (q : QuorumSystem) (laws : AreQuorums q) (running : List ℕ) (slot : SlotName) (before : ℕ)
+    (members : AreMembers q running) (quorum : IsQuorum q running) (p : ℕ) (runs : Has p running)
+  where
+    pub recovers_second : (w : Network) (k : ℕ) → Room q running slot before members p runs w
+        → ((n : ℕ) → Has n running → Seen q running slot before members p runs n w)
+        → known_of slot (records_at w p) ≡ None
+        → ((x : Network) (b : BallotNumber) (mine : b.site ≡ p) (old : ℕ)
+        → Gathering q laws running slot before members quorum p runs b mine old x
+        → Waits q laws running slot before members quorum p runs b mine old p x
+        → Leads q running slot before x k)
+        → Leads q running slot before w (1 + k)
+    recovers_second w k r seen unknown next =
+        recover_leads q running slot before members w p b k runs (r.up p runs) unknown r.has
+        (next_is q running slot before members p runs w r.room)
+        (λ x t. next x b refl (length (volatile_at w p).heard) (begun x t) (waits x t p runs))
+      where
+        l : ℕ
+        l = last q running slot before members p runs w
 
-  pub recovers_second : (w : Network) (k : ℕ)
-      → Room q running slot before members p runs w
-      → ((n : ℕ) → Has n running → Seen q running slot before members p runs n w)
-      → known_of slot (records_at w p) ≡ None
-      → ((x : Network) (b : BallotNumber) (mine : b.site ≡ p) (old : ℕ)
-      → Gathering q laws running slot before members quorum p runs b mine old x
-      → Waits q laws running slot before members quorum p runs b mine old p x
-      → Leads q running slot before x k)
-      → Leads q running slot before w (1 + k)
-  recovers_second w k r seen unknown next =
-      recover_leads q running slot before members w p b k runs (r.up p runs) unknown r.has
-      (next_is q running slot before members p runs w r.room)
-      (λ x t. next x b refl (length (volatile_at w p).heard) (begun x t) (waits x t p runs))
-    where
-      l : ℕ
-      l = last q running slot before members p runs w
+        b : BallotNumber
+        b = ballot q running slot before members p runs (1 + l)
 
-      b : BallotNumber
-      b = ballot q running slot before members p runs (1 + l)
+        Begun : Network → Type 0
+        Begun x =
+            Took w p (Some (of_slot slot (entry.Round b.round)))
+            (with_current (volatile_at w p) slot b) (to_each slot (Prepare b) q.members) x
 
-      Begun : Network → Type 0
-      Begun x =
-          Took w p (Some (of_slot slot (entry.Round b.round)))
-          (with_current (volatile_at w p) slot b) (to_each slot (Prepare b) q.members) x
+        waits : (x : Network) → Begun x → (n : ℕ) → Has n running → (a : BallotNumber)
+            → promised_of slot (records_at x n) ≡ Some a → Below a b
+        waits x t n h a e =
+            let s =
+            seen n h a
+            (sym (begun_promised q running slot before members p runs w x t n) ∙ e) in
+            inl (omega (arith, s))
 
-      waits : (x : Network) → Begun x → (n : ℕ) → Has n running → (a : BallotNumber)
-          → promised_of slot (records_at x n) ≡ Some a → Below a b
-      waits x t n h a e =
-          let s =
-          seen n h a
-          (sym (begun_promised q running slot before members p runs w x t n) ∙ e) in
-          inl (omega (arith, s))
-
-      begun : (x : Network) → Begun x
-          → Gathering q laws running slot before members quorum p runs b refl
-          (length (volatile_at w p).heard) x
-      begun x t = record {
-        up = λ n h. took_up t n (r.up n h);
-        later = took_later t before r.later;
-        has = begun_has q running slot before members p runs w x t r.has;
-        asked = begun_asked q running slot before members p runs w x t r.later;
-        is_current =
-            ap (λ (s : VolatileState). s.current slot) t.volatile_is
-            ∙ ap (λ (t : Bool).
-            cond t (Some (record {
-              ballot = b;
-              heard_before = length (volatile_at w p).heard;
-            })) ((volatile_at w p).current slot))
-            ((same_slot_decides slot slot).1 refl);
-        within =
-            rw t.volatile_is (omega arith);
-        each_one = λ n h. inl (waits x t n h);
-        ready = λ e.
-            let none =
-            ap (λ (s : VolatileState).
-            promisers (gathered slot (record {
-              ballot = b;
-              heard_before = length (volatile_at w p).heard;
-            }) s.heard)) t.volatile_is
-            ∙ none_gathered b (volatile_at w p).heard in
-            let nobody = subst (IsQuorum q) none e in
-            let met = laws.meet [] [] nobody nobody in
-            absurd (has_none met.2);
-      }
+        begun : (x : Network) → Begun x
+            → Gathering q laws running slot before members quorum p runs b refl
+            (length (volatile_at w p).heard) x
+        begun x t = record {
+          up = λ n h. took_up t n (r.up n h);
+          later = took_later t before r.later;
+          has = begun_has q running slot before members p runs w x t r.has;
+          asked = begun_asked q running slot before members p runs w x t r.later;
+          is_current = rw (t.volatile_is, (same_slot_decides slot slot).1 refl) refl;
+          within = rw t.volatile_is (omega arith);
+          each_one = λ n h. inl (waits x t n h);
+          ready = λ e.
+              let nobody = rw (t.volatile_is, none_gathered slot b (volatile_at w p).heard) at e in
+              let met = laws.meet [] [] nobody nobody in
+              absurd (has_none met.2);
+        }

@@ -1,6 +1,6 @@
 -- A decision is within reach.
-use Rattle.std.proofs.Common.{ℕ, ◌≡◌, ◌≤◌, ◌+◌, ◌*◌, inl, inr, refl, sym, ap, ◌∙◌}
-use Rattle.std.proofs.Common.{List, [], ◌∷◌, length, Option, None, Some, arith}
+use Rattle.std.proofs.Common.{ℕ, ◌≡◌, ◌≤◌, ◌+◌, ◌*◌, inl, inr, refl, sym, ap, ◌∙◌, List, [], ◌∷◌}
+use Rattle.std.proofs.Common.{length, Option, None, Some, arith}
 use Rattle.fed_types.specs.declared.bag_id.BagId.{BagId}
 use Rattle.fed_types.specs.Lists.{Has}
 use Rattle.fed_types.specs.Quorums.{QuorumSystem, IsQuorum, AreQuorums}
@@ -8,9 +8,6 @@ use Rattle.fed_types.specs.Slots.{SlotName}
 use Rattle.records.specs.declared.entry.Entry.TheVariants as entry
 use Rattle.records.specs.SlotStates.{promised_of, known_of}
 use Rattle.records.proofs.Bounds.{vote_bounds, known_among}
-use Rattle.proposer.specs.Proposals.{last_round}
-use Rattle.proposer.specs.VolatileStates.{VolatileState}
-use Rattle.records.specs.declared.record.Record.{Record}
 use Rattle.fed_types.specs.declared.vote.Vote.{Vote}
 use Rattle.world_law.specs.Laws.{OnRecord, IsChosen}
 use Rattle.world_law.specs.Networks.{Network, Event, new_network, happens, run}
@@ -24,8 +21,8 @@ use Rattle.reach_law.proofs.Discovering.{Room, Seen, last, recovers_first, disco
 use Rattle.reach_law.proofs.Promising.{vote_for, promises_all, recovers_second}
 use Rattle.reach_law.proofs.Voting.{votes_all}
 use Rattle.reach_law.proofs.Spreading.{KnowsAt, spreads}
-use Rattle.reach_law.specs.Running.{records_at, volatile_at, AreMembers, HasVoteOrDeposit}
-use Rattle.reach_law.specs.Running.{RoundsAreLeft, CanDecide}
+use Rattle.reach_law.specs.Running.{records_at, AreMembers, HasVoteOrDeposit, RoundsAreLeft}
+use Rattle.reach_law.specs.Running.{CanDecide}
 use Rattle.reach_law.specs.Reach.{IsWithinReach}
 use Rattle.reach_law.proofs.Words.{some_of}
 
@@ -45,14 +42,13 @@ module _ (q : QuorumSystem) (laws : AreQuorums q) (running : List ℕ) (slot : S
         (record { up = up; later = later; knows = knows })
 
     later_of : (x : Network) → Same w x → before ≤ length x.sent
-    later_of x same =
-        rw same.sent (omega arith)
+    later_of x same = rw same.sent (omega arith)
 
     from_known : KnowsAt slot p w → Reaches w (10 * length running + 2)
     from_known f =
         leads_more q running slot before w (spent 1 running (spent 3 running 0))
         (10 * length running + 2)
-        (omega (arith, spent_is 1 running (spent 3 running 0), spent_is 3 running 0))
+        (omega (arith, spent_is))
         (opens q running slot before members w (spent 3 running 0)
         (λ x same up.
         spread x up (later_of x same)
@@ -75,10 +71,7 @@ module _ (q : QuorumSystem) (laws : AreQuorums q) (running : List ℕ) (slot : S
       second = spent 2 running (1 + third)
 
       same_last : (x : Network) → Same w x → last_of x ≡ last_of w
-      same_last x same =
-          ap (λ (rs : List Record). last_round slot rs (volatile_at x p).heard) (same.records p)
-          ∙ ap (λ (v : VolatileState). last_round slot (records_at w p) v.heard)
-          (same.volatile p)
+      same_last x same = rw (same.records p, same.volatile p) refl
 
       room_of : (x : Network) → Same w x → ((n : ℕ) → Has n running → IsUp x n) → RoomAt x
       room_of x same up = record {
@@ -86,8 +79,7 @@ module _ (q : QuorumSystem) (laws : AreQuorums q) (running : List ℕ) (slot : S
         later = later_of x same;
         has = rw (same.records p) has;
         room = let own = left.own in omega (arith, own, same_last x same);
-        rooms = λ n h b e.
-            left.promised n b h (sym (ap (promised_of slot) (same.records n)) ∙ e);
+        rooms = λ n h b e. left.promised n b h (sym (ap (promised_of slot) (same.records n)) ∙ e);
       }
 
       decides : (x : Network) → RoomAt x
@@ -96,12 +88,7 @@ module _ (q : QuorumSystem) (laws : AreQuorums q) (running : List ℕ) (slot : S
           → (o : Option BagId) → known_of slot (records_at x p) ≡ o → Reaches x (1 + third)
       decides x r seen (Some bag) e =
           leads_more q running slot before x (spent 3 running 0) (1 + third)
-          (omega (
-            arith,
-            spent_is 2 running (spent 2 running (spent 3 running 0)),
-            spent_is 2 running (spent 3 running 0),
-            spent_is 3 running 0,
-          ))
+          (omega (arith, spent_is))
           (spread x r.up r.later (bag, e))
       decides x r seen None e =
           recovers_second q laws running slot before members quorum p runs x third r seen e
@@ -118,19 +105,13 @@ module _ (q : QuorumSystem) (laws : AreQuorums q) (running : List ℕ) (slot : S
             can = λ n h. inr ((promised n h).promised, (promised n h).lower);
           })
           laws quorum
-          (λ y' up' later' knows. spread y' up' later' knows)))
+          spread))
 
       begins : (x : Network) → Same w x → ((n : ℕ) → Has n running → IsUp x n)
           → (o : Option BagId) → known_of slot (records_at x p) ≡ o → Reaches x (1 + second)
       begins x same up (Some bag) e =
           leads_more q running slot before x (spent 3 running 0) (1 + second)
-          (omega (
-            arith,
-            spent_is 2 running (1 + third),
-            spent_is 2 running (spent 2 running (spent 3 running 0)),
-            spent_is 2 running (spent 3 running 0),
-            spent_is 3 running 0,
-          ))
+          (omega (arith, spent_is))
           (spread x up (later_of x same) (bag, e))
       begins x same up None e =
           recovers_first q running slot before members p runs x second
@@ -144,14 +125,7 @@ module _ (q : QuorumSystem) (laws : AreQuorums q) (running : List ℕ) (slot : S
       from_bag =
           leads_more q running slot before w (spent 1 running (1 + second))
           (10 * length running + 2)
-          (omega (
-            arith,
-            spent_is 1 running (1 + second),
-            spent_is 2 running (1 + third),
-            spent_is 2 running (spent 2 running (spent 3 running 0)),
-            spent_is 2 running (spent 3 running 0),
-            spent_is 3 running 0,
-          ))
+          (omega (arith, spent_is))
           (opens q running slot before members w (1 + second)
           (λ x same up. begins x same up (known_of slot (records_at x p)) refl))
 

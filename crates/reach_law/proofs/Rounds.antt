@@ -1,18 +1,18 @@
 -- The rounds of a slot's ballots are no more than the proposals for it.
-use Rattle.std.proofs.Common.{ℕ, zero, suc, ◌≡◌, ◌≤◌, ◌+◌, max, Bool, true, false, cond}
-use Rattle.std.proofs.Common.{inl, inr, refl, sym, ap, subst, ◌∙◌, List, [], ◌∷◌, length, take}
-use Rattle.std.proofs.Common.{Option, None, Some, append-nil, arith, ◌||◌}
+use Rattle.std.proofs.Common.{ℕ, zero, suc, ◌≡◌, ◌≤◌, ◌+◌, max, Bool, true, false, cond, inl, inr}
+use Rattle.std.proofs.Common.{refl, sym, ap, subst, ◌∙◌, List, [], ◌∷◌, length, take, Option, None}
+use Rattle.std.proofs.Common.{Some, append-nil, arith}
 use Rattle.std.specs.Prelude.{⊤, fold, filter_map, Result, Ok, Err, nat_lt}
 use Rattle.std.specs.Bool.{nat_le}
 use Rattle.fed_types.specs.declared.bag_id.BagId.{BagId}
 use Rattle.fed_types.specs.declared.vote.Vote.{Vote}
-use Rattle.fed_types.specs.Ballots.{BallotNumber, below}
+use Rattle.fed_types.specs.Ballots.{BallotNumber}
 use Rattle.fed_types.specs.Limits.{greatest_round}
 use Rattle.fed_types.specs.Lists.{Has, here, is_in}
 use Rattle.fed_types.specs.Quorums.{QuorumSystem, AreQuorums}
 use Rattle.fed_types.specs.Slots.{SlotName, same_slot}
-use Rattle.fed_types.specs.Laws.Lists.{has_none, has_cases, has_take, has_filter_map}
-use Rattle.fed_types.specs.Laws.Lists.{fold_keeps, has_left, has_right}
+use Rattle.fed_types.specs.Laws.Lists.{has_none, has_cases, has_take, has_filter_map, fold_keeps}
+use Rattle.fed_types.specs.Laws.Lists.{has_left, has_right}
 use Rattle.fed_types.specs.Laws.Slots.{same_slot_decides}
 use Rattle.bag_check.specs.declared.fault.BagFault.{BagFault}
 use Rattle.records.specs.declared.entry.Entry.{Entry}
@@ -28,9 +28,7 @@ use Rattle.dgram.specs.declared.message.Message.{Message}
 use Rattle.dgram.specs.Encoding.{body_from}
 use Rattle.dgram.specs.Heard.{bodies_of, refused_round, floor_of}
 use Rattle.dgram.proofs.Heard.{has_message}
-use Rattle.acceptor.specs.Decisions.{promises, refuses, votes, votes_again, on_prepare}
-use Rattle.acceptor.specs.Decisions.{on_new_accept, is_vote, is_in_ballot, prepare_decision}
-use Rattle.acceptor.specs.Decisions.{accept_decision}
+use Rattle.acceptor.specs.Decisions.{refuses, prepare_decision, accept_decision}
 use Rattle.learner.specs.LearnedBags.{learned_from, learned_of_known}
 use Rattle.proposer.specs.Proposals.{last_round, next_ballot, ready}
 use Rattle.proposer.specs.VolatileStates.{VolatileState, new_volatile, hears, with_current}
@@ -39,14 +37,12 @@ use Rattle.schedule.specs.declared.fate.Fate.TheVariants.{Whole, StopsIn, StopsA
 use Rattle.site.specs.declared.answer.Line.{Line}
 use Rattle.site.specs.declared.fault.SiteFault.{SiteFault}
 use Rattle.site.specs.declared.fault.SiteFault.TheVariants as faults
-use Rattle.site.specs.Arrivals.{decided, proposing, learning, telling}
-use Rattle.site.specs.Arrivals.{is_member, on_arrival, on_body}
+use Rattle.site.specs.Arrivals.{decided, proposing, learning, telling, is_member, on_arrival}
+use Rattle.site.specs.Arrivals.{on_body}
 use Rattle.site.specs.Calls.{Input, Deposits, Proposes, Recovers, Asks, Arrives, effect_of}
-use Rattle.site.specs.Calls.{on_deposit, on_propose, on_recover, on_ask, registering}
-use Rattle.site.specs.Calls.{deposit_fault, other_than, begins_next, begins_ballot_if}
-use Rattle.site.specs.Calls.{recovers_if}
-use Rattle.site.specs.Effects.{Effect, Send, record_of, to_each, commits_and_sends}
-use Rattle.site.specs.Effects.{commits_and_says}
+use Rattle.site.specs.Calls.{on_deposit, on_propose, on_recover, on_ask, registering, deposit_fault}
+use Rattle.site.specs.Calls.{other_than, begins_next, begins_ballot_if, recovers_if}
+use Rattle.site.specs.Effects.{Effect, Send, record_of, commits_and_sends, commits_and_says}
 use Rattle.site.specs.Effects as effects
 use Rattle.lines.specs.declared.notice.Notice.{Notice}
 use Rattle.lines.specs.declared.notice.Notice.TheVariants.{GoesDown, ComesUp}
@@ -63,10 +59,11 @@ use Rattle.world_law.proofs.Runs.{happens_kept, new_kept, run_kept}
 use Rattle.world_law.proofs.Sends.{at_number}
 use Rattle.world_law.proofs.Step.{moved, record_cases}
 use Rattle.world_law.proofs.Deeds.{carries_each}
-use Rattle.reach_law.proofs.Words.{of_slot, about}
+use Rattle.reach_law.proofs.Words.{of_slot, about, some_same}
+use Rattle.reach_law.proofs.Discovering.{promise_if, prepare_cases}
+use Rattle.reach_law.proofs.Voting.{accept_cases}
 use Rattle.reach_law.specs.Running.{records_at, volatile_at, RoundsAreLeft, proposals_for}
 use Rattle.reach_law.specs.Running.{proposals_in}
-use Rattle.reach_law.proofs.Words.{some_same}
 
 -- ---- what is of a round up to k
 
@@ -74,8 +71,7 @@ abbrev EntryWithin : ℕ → Entry → Type 0
 EntryWithin k (entry.Round round) = round ≤ k
 EntryWithin k (entry.Promise ballot) = ballot.round ≤ k
 EntryWithin k (entry.Vote vote) = vote.ballot.round ≤ k
-EntryWithin k (entry.Deposit bag) = ⊤
-EntryWithin k (entry.Known bag) = ⊤
+EntryWithin k _ = ⊤
 
 abbrev BodyWithin : ℕ → Body → Type 0
 BodyWithin k (Prepare ballot) = ballot.round ≤ k
@@ -88,8 +84,7 @@ entry_more : (k l : ℕ) → k ≤ l → (e : Entry) → EntryWithin k e → Ent
 entry_more k l m (entry.Round round) h = omega (arith, m, h)
 entry_more k l m (entry.Promise ballot) h = omega (arith, m, h)
 entry_more k l m (entry.Vote vote) h = omega (arith, m, h)
-entry_more k l m (entry.Deposit bag) h = tt
-entry_more k l m (entry.Known bag) h = tt
+entry_more k l m _ h = tt
 
 body_more : (k l : ℕ) → k ≤ l → (b : Body) → BodyWithin k b → BodyWithin l b
 body_more k l m (Prepare ballot) h = omega (arith, m, h)
@@ -97,10 +92,6 @@ body_more k l m (Promise from ballot prior) h = omega (arith, m, h)
 body_more k l m (Accept vote) h = omega (arith, m, h)
 body_more k l m (Refused from asked standing) h = omega (arith, m, h)
 body_more k l m _ h = tt
-
-record_same : {x y : Record} → Some x ≡ Some y → (x.slot ≡ y.slot) × (x.body ≡ y.body)
-record_same e =
-    (ap (λ (r : Record). r.slot) (some_same e), ap (λ (r : Record). r.body) (some_same e))
 
 -- a greatest is no more than what bounds all
 max_within : (xs : List ℕ) (k : ℕ) → ((n : ℕ) → Has n xs → n ≤ k) → fold max 0 xs ≤ k
@@ -114,8 +105,7 @@ max_within xs k =
 
 refused_within : (k : ℕ) (body : Body) (r : ℕ) → refused_round body ≡ Some r → BodyWithin k body
     → r ≤ k
-refused_within k (Refused from asked standing) r is within =
-    rw (← some_same is) within
+refused_within k (Refused from asked standing) r is within = rw (← some_same is) within
 refused_within k _ r is within = absurd (cc is)
 
 floor_within : (k : ℕ) (bodies : List Body)
@@ -156,7 +146,9 @@ module _ (slot : SlotName) where
       → (s ≡ slot → (x : Entry) → o ≡ Some x → EntryWithin k x) → (x : Entry)
       → record_of s o ≡ Some (of_slot slot x) → EntryWithin k x
   said_within k s None h x e = absurd (cc e)
-  said_within k s (Some y) h x e = let f = record_same e in h f.0 x (ap Some f.1)
+  said_within k s (Some y) h x e =
+      let same = some_same e in
+      h (ap (λ (r : Record). r.slot) same) x (ap (λ (r : Record). Some r.body) same)
 
   sends_within : (k : ℕ) (s : SlotName) (o : Option Entry) (body : Body) (sites : List ℕ)
       (v : VolatileState)
@@ -173,8 +165,7 @@ module _ (slot : SlotName) where
   says_within : (k : ℕ) (s : SlotName) (o : Option Entry) (line : Line) (v : VolatileState)
       → (s ≡ slot → (x : Entry) → o ≡ Some x → EntryWithin k x)
       → EffectWithin k (commits_and_says s o line v)
-  says_within k s o line v h =
-      record { entry_is = said_within k s o h; bodies = no_sends k }
+  says_within k s o line v h = record { entry_is = said_within k s o h; bodies = no_sends k }
 
   -- ---- what a site does
 
@@ -188,82 +179,43 @@ module _ (slot : SlotName) where
         (h.records n f.0 (rw (← same) f.1)))
       where
         go : (x : Entry) → ballot_in x ≡ Some p → EntryWithin l x → p.round ≤ l
-        go (entry.Promise ballot) is within =
-            rw (← some_same is) within
-        go (entry.Vote vote) is within =
-            rw (← some_same is) within
+        go (entry.Promise ballot) is within = rw (← some_same is) within
+        go (entry.Vote vote) is within = rw (← some_same is) within
         go _ is within = absurd (cc is)
 
     heard_within : (s : SlotName) (body : Body) → WasSent w s body → s ≡ slot → BodyWithin l body
-    heard_within s body sent same =
-        body_more k l more body
-        (h.sent body (rw (← same) sent))
+    heard_within s body sent same = body_more k l more body (h.sent body (rw (← same) sent))
 
     prepare_within : (s : SlotName) (asker : ℕ) (b : BallotNumber) (v : VolatileState)
         → (q : QuorumSystem) → (s ≡ slot → b.round ≤ l)
         → EffectWithin l (decided q n s asker (prepare_decision s (records_at w n) b) v)
-    unfolding prepare_decision
-    prepare_within s asker b v q low = go (promised_of s (records_at w n)) refl
-      where
-        promised : EffectWithin l
-            (decided q n s asker (promises b (vote_of s (records_at w n))) v)
-        promised =
-            sends_within l s (Some (entry.Promise b)) (Promise n b (vote_of s (records_at w n)))
-            (asker ∷ []) v
-            (λ f x e. subst (EntryWithin l) (some_same e) (low f)) low
-
-        go : (o : Option BallotNumber) → promised_of s (records_at w n) ≡ o
-            → EffectWithin l
-            (decided q n s asker (on_prepare o (vote_of s (records_at w n)) b) v)
-        go None e = promised
-        go (Some p) e = test (below p b)
-          where
-            test : (t : Bool)
-                → EffectWithin l
-                (decided q n s asker
-                (cond t (promises b (vote_of s (records_at w n))) (refuses b p)) v)
-            test true = promised
-            test false =
-                sends_within l s None (Refused n b p) (asker ∷ []) v (λ f x e. absurd (cc e))
-                (λ f. standing_within s f p e)
+    prepare_within s asker b v q low = elim (prepare_cases s (records_at w n) b) [
+      | inl above ↦
+          rw (promise_if s (records_at w n) b above)
+          (sends_within l s (Some (entry.Promise b)) (Promise n b (vote_of s (records_at w n)))
+          (asker ∷ []) v (λ f x e. subst (EntryWithin l) (some_same e) (low f)) low)
+      | inr stands ↦
+          rw stands.2
+          (sends_within l s None (Refused n b stands.0) (asker ∷ []) v (λ f x e. absurd (cc e))
+          (λ f. standing_within s f stands.0 stands.1))
+    ]
 
     accept_within : (s : SlotName) (asker : ℕ) (vote : Vote) (v : VolatileState)
         → (q : QuorumSystem) → (s ≡ slot → vote.ballot.round ≤ l)
         → EffectWithin l (decided q n s asker (accept_decision s (records_at w n) vote) v)
-    unfolding accept_decision
-    accept_within s asker vote v q low =
-        again (is_vote vote (vote_of s (records_at w n)))
-      where
-        new : EffectWithin l (decided q n s asker (votes vote) v)
-        new =
-            sends_within l s (Some (entry.Vote vote)) (Accepted n vote) q.members v
-            (λ f x e. subst (EntryWithin l) (some_same e) (low f)) (λ f. tt)
-
-        test : (p : BallotNumber) → promised_of s (records_at w n) ≡ Some p → (t : Bool)
-            → EffectWithin l
-            (decided q n s asker (cond t (refuses vote.ballot p) (votes vote)) v)
-        test p e true =
-            sends_within l s None (Refused n vote.ballot p) (asker ∷ []) v (λ f x e. absurd (cc e))
-            (λ f. standing_within s f p e)
-        test p e false = new
-
-        go : (o : Option BallotNumber) → promised_of s (records_at w n) ≡ o
-            → EffectWithin l
-            (decided q n s asker (on_new_accept o (vote_of s (records_at w n)) vote) v)
-        go None e = new
-        go (Some p) e =
-            test p e
-            (below vote.ballot p || is_in_ballot vote.ballot (vote_of s (records_at w n)))
-
-        again : (t : Bool)
-            → EffectWithin l
-            (decided q n s asker
-            (cond t (votes_again vote)
-            (on_new_accept (promised_of s (records_at w n)) (vote_of s (records_at w n)) vote))
-            v)
-        again true =
-            sends_within l s None (Accepted n vote) q.members v (λ f x e. absurd (cc e)) (λ f. tt)
-        again false = go (promised_of s (records_at w n)) refl
+    accept_within s asker vote v q low = elim (accept_cases s (records_at w n) vote) [
+      | inl (inl again) ↦
+          rw again
+          (sends_within l s None (Accepted n vote) q.members v (λ f x e. absurd (cc e)) (λ f. tt))
+      | inl (inr new) ↦
+          rw new
+          (sends_within l s (Some (entry.Vote vote)) (Accepted n vote) q.members v
+          (λ f x e. subst (EntryWithin l) (some_same e) (low f)) (λ f. tt))
+      | inr stands ↦
+          rw stands.2
+          (sends_within l s None (Refused n vote.ballot stands.0) (asker ∷ []) v
+          (λ f x e. absurd (cc e)) (λ f. standing_within s f stands.0 stands.1))
+    ]
 
     proposing_within : (q : QuorumSystem) (s : SlotName) (b : BallotNumber) (o : Option BagId)
         (v : VolatileState)
@@ -287,8 +239,7 @@ module _ (slot : SlotName) where
         sends_within l s None (Known n bag) (asker ∷ []) v (λ f x e. absurd (cc e)) (λ f. tt)
 
     body_within : (q : QuorumSystem) (old now : VolatileState) (s : SlotName) (body : Body)
-        → WasSent w s body
-        → EffectWithin l (on_body q n (records_at w n) old now s body)
+        → WasSent w s body → EffectWithin l (on_body q n (records_at w n) old now s body)
     unfolding on_body
     body_within q old now s (Prepare b) sent =
         prepare_within s b.site b now q (heard_within s (Prepare b) sent)
@@ -303,7 +254,6 @@ module _ (slot : SlotName) where
         learning_within s (learned_from q s (records_at w n) old.heard from vote) now
     body_within q old now s (Known from bag) sent =
         learning_within s (learned_of_known s (records_at w n) bag) now
-    body_within q old now s (Refused from asked standing) sent = nothing_within l _ refl refl
     body_within q old now s (Ask from) sent =
         telling_within s from (known_of s (records_at w n)) now
     body_within q old now s _ sent = nothing_within l _ refl refl
@@ -315,8 +265,7 @@ module _ (slot : SlotName) where
     arrival_within q v None sent = nothing_within l _ refl refl
     arrival_within q v (Some m) sent = go (is_member q (body_from m.body))
       where
-        go : (t : Bool)
-            → EffectWithin l
+        go : (t : Bool) → EffectWithin l
             (cond t (on_body q n (records_at w n) v (hears v m) m.slot m.body)
             (on_arrival q n (records_at w n) v None))
         go true = body_within q v (hears v m) m.slot m.body (sent m refl)
@@ -341,16 +290,14 @@ module _ (slot : SlotName) where
         go None (Some own) = says_within l s None _ v (λ f x e. absurd (cc e))
 
     -- the last round, of those that were used or stood in the way
-    last_within : (v : VolatileState)
-        → ((m : Message) → Has m v.heard → WasSent w m.slot m.body)
+    last_within : (v : VolatileState) → ((m : Message) → Has m v.heard → WasSent w m.slot m.body)
         → last_round slot (records_at w n) v.heard ≤ k
     last_within v heard =
         let u : used_of slot (records_at w n) ≤ k = used in
         let f : floor_of (bodies_of slot v.heard) ≤ k = floor in
         omega (arith, u, f)
       where
-        used_cases : (m : ℕ) → used_of slot (records_at w n) ≡ m
-            → used_of slot (records_at w n) ≤ k
+        used_cases : (m : ℕ) → used_of slot (records_at w n) ≡ m → used_of slot (records_at w n) ≤ k
         used_cases zero e = omega (arith, e)
         used_cases (suc m) e =
             h.records n (entry.Round (used_of slot (records_at w n)))
@@ -364,59 +311,48 @@ module _ (slot : SlotName) where
             floor_within k (bodies_of slot v.heard)
             (λ body i. h.sent body (heard (about slot body) (has_message slot v.heard body i)))
 
-    next_within : (q : QuorumSystem) (v : VolatileState) (s : SlotName)
-        → ((m : Message) → Has m v.heard → WasSent w m.slot m.body)
-        → (s ≡ slot → 1 + k ≤ l)
-        → EffectWithin l (begins_next q s (next_ballot n s (records_at w n) v.heard) v)
-    unfolding next_ballot
-    next_within q v s heard one =
-        go (nat_lt (last_round s (records_at w n) v.heard) greatest_round)
-      where
-        low : s ≡ slot → 1 + last_round s (records_at w n) v.heard ≤ l
-        low same =
-            let last =
-            subst (λ (s : SlotName). last_round s (records_at w n) v.heard ≤ k) (sym same)
-            (last_within v heard) in
-            let one' = one same in
-            omega (arith, last, one')
+    -- a ballot begins, of the next round
+    module _ (q : QuorumSystem) (v : VolatileState) (s : SlotName)
+        (heard : (m : Message) → Has m v.heard → WasSent w m.slot m.body)
+        (one : s ≡ slot → 1 + k ≤ l) where
+      next_within : EffectWithin l (begins_next q s (next_ballot n s (records_at w n) v.heard) v)
+      unfolding next_ballot
+      next_within =
+          go (nat_lt (last_round s (records_at w n) v.heard) greatest_round)
+        where
+          low : s ≡ slot → 1 + last_round s (records_at w n) v.heard ≤ l
+          low same =
+              let last : last_round s (records_at w n) v.heard ≤ k =
+              rw same (last_within v heard) in
+              omega (arith, last, one same)
 
-        b : BallotNumber
-        b = record { round = 1 + last_round s (records_at w n) v.heard; site = n }
+          b : BallotNumber
+          b = record { round = 1 + last_round s (records_at w n) v.heard; site = n }
 
-        go : (t : Bool) → EffectWithin l (begins_next q s (cond t (Some b) None) v)
-        go false = nothing_within l _ refl refl
-        go true =
-            sends_within l s (Some (entry.Round b.round)) (Prepare b) q.members
-            (with_current v s b) (λ f x e. subst (EntryWithin l) (some_same e) (low f)) low
+          go : (t : Bool) → EffectWithin l (begins_next q s (cond t (Some b) None) v)
+          go false = nothing_within l _ refl refl
+          go true =
+              sends_within l s (Some (entry.Round b.round)) (Prepare b) q.members
+              (with_current v s b) (λ f x e. subst (EntryWithin l) (some_same e) (low f)) low
 
-    propose_within : (q : QuorumSystem) (v : VolatileState) (s : SlotName)
-        → ((m : Message) → Has m v.heard → WasSent w m.slot m.body)
-        → (s ≡ slot → 1 + k ≤ l)
-        → EffectWithin l (on_propose q n (records_at w n) v s)
-    unfolding on_propose
-    propose_within q v s heard one =
-        go (known_of s (records_at w n)) (deposit_of s (records_at w n))
-      where
-        go : (known own : Option BagId)
-            → EffectWithin l
-            (begins_ballot_if q s known own (next_ballot n s (records_at w n) v.heard) v)
-        go (Some known) own = nothing_within l _ refl refl
-        go None None = nothing_within l _ refl refl
-        go None (Some own) = next_within q v s heard one
+      propose_within : EffectWithin l (on_propose q n (records_at w n) v s)
+      unfolding on_propose
+      propose_within =
+          go (known_of s (records_at w n)) (deposit_of s (records_at w n))
+        where
+          go : (known own : Option BagId) → EffectWithin l
+              (begins_ballot_if q s known own (next_ballot n s (records_at w n) v.heard) v)
+          go None (Some own) = next_within
+          go _ _ = nothing_within l _ refl refl
 
-    recover_within : (q : QuorumSystem) (v : VolatileState) (s : SlotName)
-        → ((m : Message) → Has m v.heard → WasSent w m.slot m.body)
-        → (s ≡ slot → 1 + k ≤ l)
-        → EffectWithin l (on_recover q n (records_at w n) v s)
-    unfolding on_recover
-    recover_within q v s heard one = go (known_of s (records_at w n)) _
-      where
-        go : (known : Option BagId) (has : Bool)
-            → EffectWithin l
-            (recovers_if q s known has (next_ballot n s (records_at w n) v.heard) v)
-        go (Some known) has = nothing_within l _ refl refl
-        go None false = nothing_within l _ refl refl
-        go None true = next_within q v s heard one
+      recover_within : EffectWithin l (on_recover q n (records_at w n) v s)
+      unfolding on_recover
+      recover_within = go (known_of s (records_at w n)) _
+        where
+          go : (known : Option BagId) (has : Bool) → EffectWithin l
+              (recovers_if q s known has (next_ballot n s (records_at w n) v.heard) v)
+          go None true = next_within
+          go _ _ = nothing_within l _ refl refl
 
   -- ---- what happens
 
@@ -446,8 +382,7 @@ module _ (slot : SlotName) where
 
     module _ (n : ℕ) where
       left_within : (t : Bool) (r : Record) (mode : Mode) (notice : Option Notice)
-          → Entries k (Some r)
-          → Within k (moved w n (cond t (Some r) None) mode [] notice).network
+          → Entries k (Some r) → Within k (moved w n (cond t (Some r) None) mode [] notice).network
       left_within true r mode notice entries =
           moved_within n (Some r) mode [] notice entries (no_sends k)
       left_within false r mode notice entries =
@@ -507,83 +442,72 @@ module _ (slot : SlotName) where
 
       starts_within : (mode : Mode) → Within k (starts w n mode).network
       starts_within (Up v) = h
-      starts_within NeedsOpening = opened_within
-      starts_within Down = opened_within
+      starts_within _ = opened_within
 
       replies_within : (s : SlotName) (mode : Mode) → Within k (replies w n mode s).network
       replies_within s (Up v) = h
-      replies_within s NeedsOpening = h
-      replies_within s Down = h
+      replies_within s _ = h
 
-  step_within : (q : QuorumSystem) (k : ℕ) (w : Network) → Within k w → Kept q w → (e : Event)
-      → Within (proposals_in slot e + k) (happens q w e).network
-  unfolding happens on_ask
-  step_within q k w h inv (networks.Deposit n s checked fate) =
-      takes_within q (0 + k) w (within_more k (0 + k) (omega arith) w h) n (Deposits s checked)
-      fate (deposit_within k (0 + k) (omega arith) w h n (volatile_at w n) s checked)
-  step_within q k w h inv (networks.Propose n s fate) = go (same_slot s slot) refl
-    where
-      go : (t : Bool) → same_slot s slot ≡ t
-          → Within (cond t 1 0 + k) (takes q w n (Proposes s) fate).network
-      go true e =
-          takes_within q (1 + k) w (within_more k (1 + k) (omega arith) w h) n (Proposes s) fate
-          (propose_within k (1 + k) (omega arith) w h n q (volatile_at w n) s
-          (inv.volatiles n).heard (λ f. omega arith))
-      go false e =
-          takes_within q (0 + k) w (within_more k (0 + k) (omega arith) w h) n (Proposes s) fate
-          (propose_within k (0 + k) (omega arith) w h n q (volatile_at w n) s
-          (inv.volatiles n).heard
-          (λ f. absurd (cc (sym e ∙ (same_slot_decides s slot).1 f))))
-  step_within q k w h inv (networks.Recover n s fate) = go (same_slot s slot) refl
-    where
-      go : (t : Bool) → same_slot s slot ≡ t
-          → Within (cond t 1 0 + k) (takes q w n (Recovers s) fate).network
-      go true e =
-          takes_within q (1 + k) w (within_more k (1 + k) (omega arith) w h) n (Recovers s) fate
-          (recover_within k (1 + k) (omega arith) w h n q (volatile_at w n) s
-          (inv.volatiles n).heard (λ f. omega arith))
-      go false e =
-          takes_within q (0 + k) w (within_more k (0 + k) (omega arith) w h) n (Recovers s) fate
-          (recover_within k (0 + k) (omega arith) w h n q (volatile_at w n) s
-          (inv.volatiles n).heard
-          (λ f. absurd (cc (sym e ∙ (same_slot_decides s slot).1 f))))
-  step_within q k w h inv (networks.Ask n m s fate) =
-      takes_within q (0 + k) w (within_more k (0 + k) (omega arith) w h) n (Asks s m) fate
-      (ask_within n m s)
-    where
-      ask_within : (n m : ℕ) (s : SlotName)
-          → EffectWithin (0 + k) (on_ask n (volatile_at w n) s m)
-      ask_within n m s =
-          sends_within (0 + k) s None (Ask n) (m ∷ []) (volatile_at w n)
-          (λ f x e. absurd (cc e)) (λ f. tt)
-  step_within q k w h inv (networks.Query n s) =
-      member_within q (0 + k) w (within_more k (0 + k) (omega arith) w h) n _
-      (replies_within q (0 + k) w (within_more k (0 + k) (omega arith) w h) n s
-      (w.sites n).mode) (is_in q.members n)
-  step_within q k w h inv (networks.Deliver number fate) = go (datagram_at number w.sent) refl
-    where
-      go : (o : Option Send) → datagram_at number w.sent ≡ o
-          → Within (0 + k) (arrives q w o fate).network
-      go None e = within_more k (0 + k) (omega arith) w h
-      go (Some d) e =
-          takes_within q (0 + k) w (within_more k (0 + k) (omega arith) w h) d.to
-          (Arrives (Some d.message)) fate
-          (arrival_within k (0 + k) (omega arith) w h d.to q (volatile_at w d.to)
-          (Some d.message)
-          (λ m f.
-          rw (← some_same f) (record { to = d.to; is_sent = at_number number w.sent d e })))
-  step_within q k w h inv (networks.Raw n) =
-      takes_within q (0 + k) w (within_more k (0 + k) (omega arith) w h) n (Arrives None) Whole
-      (arrival_within k (0 + k) (omega arith) w h n q (volatile_at w n) None
-      (λ m f. absurd (cc f)))
-  step_within q k w h inv (networks.Stop n) =
-      member_within q (0 + k) w (within_more k (0 + k) (omega arith) w h) n _
-      (stops_within q (0 + k) w (within_more k (0 + k) (omega arith) w h) n (w.sites n).mode)
-      (is_in q.members n)
-  step_within q k w h inv (networks.Start n) =
-      member_within q (0 + k) w (within_more k (0 + k) (omega arith) w h) n _
-      (starts_within q (0 + k) w (within_more k (0 + k) (omega arith) w h) n (w.sites n).mode)
-      (is_in q.members n)
+  module _ (q : QuorumSystem) (k : ℕ) (w : Network) (h : Within k w) (inv : Kept q w) where
+    low : Within (0 + k) w
+    low = within_more k (0 + k) (omega arith) w h
+
+    -- a call that may begin a ballot, and is of the next round then
+    begins_within : (s : SlotName) (n : ℕ) (input : Input) (fate : Fate)
+        → ((l : ℕ) → k ≤ l → (s ≡ slot → 1 + k ≤ l)
+        → EffectWithin l (effect_of q n (records_at w n) (volatile_at w n) input))
+        → Within (cond (same_slot s slot) 1 0 + k) (takes q w n input fate).network
+    begins_within s n input fate effect = go (same_slot s slot) refl
+      where
+        go : (t : Bool) → same_slot s slot ≡ t
+            → Within (cond t 1 0 + k) (takes q w n input fate).network
+        go true e =
+            takes_within q (1 + k) w (within_more k (1 + k) (omega arith) w h) n input fate
+            (effect (1 + k) (omega arith) (λ f. omega arith))
+        go false e =
+            takes_within q (0 + k) w low n input fate
+            (effect (0 + k) (omega arith)
+            (λ f. absurd (cc (sym e ∙ (same_slot_decides s slot).1 f))))
+
+    step_within : (e : Event) → Within (proposals_in slot e + k) (happens q w e).network
+    unfolding happens on_ask
+    step_within (networks.Deposit n s checked fate) =
+        takes_within q (0 + k) w low n (Deposits s checked) fate
+        (deposit_within k (0 + k) (omega arith) w h n (volatile_at w n) s checked)
+    step_within (networks.Propose n s fate) =
+        begins_within s n (Proposes s) fate
+        (λ l m. propose_within k l m w h n q (volatile_at w n) s (inv.volatiles n).heard)
+    step_within (networks.Recover n s fate) =
+        begins_within s n (Recovers s) fate
+        (λ l m. recover_within k l m w h n q (volatile_at w n) s (inv.volatiles n).heard)
+    step_within (networks.Ask n m s fate) =
+        takes_within q (0 + k) w low n (Asks s m) fate
+        (sends_within (0 + k) s None (Ask n) (m ∷ []) (volatile_at w n)
+        (λ f x e. absurd (cc e)) (λ f. tt))
+    step_within (networks.Query n s) =
+        member_within q (0 + k) w low n _
+        (replies_within q (0 + k) w low n s (w.sites n).mode) (is_in q.members n)
+    step_within (networks.Deliver number fate) = go (datagram_at number w.sent) refl
+      where
+        go : (o : Option Send) → datagram_at number w.sent ≡ o
+            → Within (0 + k) (arrives q w o fate).network
+        go None e = low
+        go (Some d) e =
+            takes_within q (0 + k) w low d.to (Arrives (Some d.message)) fate
+            (arrival_within k (0 + k) (omega arith) w h d.to q (volatile_at w d.to)
+            (Some d.message)
+            (λ m f.
+            rw (← some_same f) (record { to = d.to; is_sent = at_number number w.sent d e })))
+    step_within (networks.Raw n) =
+        takes_within q (0 + k) w low n (Arrives None) Whole
+        (arrival_within k (0 + k) (omega arith) w h n q (volatile_at w n) None
+        (λ m f. absurd (cc f)))
+    step_within (networks.Stop n) =
+        member_within q (0 + k) w low n _
+        (stops_within q (0 + k) w low n (w.sites n).mode) (is_in q.members n)
+    step_within (networks.Start n) =
+        member_within q (0 + k) w low n _
+        (starts_within q (0 + k) w low n (w.sites n).mode) (is_in q.members n)
 
   run_within : (q : QuorumSystem) → AreQuorums q → (events : List Event) (k : ℕ) (w : Network)
       → Within k w → Kept q w → Within (proposals_for slot events + k) (run q w events)

@@ -1,7 +1,6 @@
 -- A site that knows a bag is asked by the others that run.
-use Rattle.std.proofs.Common.{ℕ, ◌≡◌, ◌≤◌, ◌+◌, refl, sym, ap, subst}
-use Rattle.std.proofs.Common.{◌∙◌, List, [], ◌∷◌, length, Option, None, Some, arith}
-use Rattle.std.specs.Prelude.{IsSome}
+use Rattle.std.proofs.Common.{ℕ, ◌≡◌, ◌≤◌, ◌+◌, refl, sym, ap, ◌∙◌, List, [], ◌∷◌, length, Option}
+use Rattle.std.proofs.Common.{None, Some, arith}
 use Rattle.fed_types.specs.declared.bag_id.BagId.{BagId}
 use Rattle.fed_types.specs.Lists.{Has, here}
 use Rattle.fed_types.specs.Quorums.{QuorumSystem}
@@ -10,9 +9,8 @@ use Rattle.records.specs.declared.entry.Entry.TheVariants as entry
 use Rattle.records.specs.declared.record.Record.{Record}
 use Rattle.records.specs.SlotStates.{known_of}
 use Rattle.dgram.specs.declared.body.Body.TheVariants.{Ask, Known}
-use Rattle.learner.specs.LearnedBags.{unless_known}
 use Rattle.proposer.specs.VolatileStates.{VolatileState, hears}
-use Rattle.site.specs.Arrivals.{telling, learning, on_body}
+use Rattle.site.specs.Arrivals.{on_body}
 use Rattle.site.specs.declared.answer.Line.TheVariants as site_lines
 use Rattle.site.specs.Effects.{Effect, Send, to_each, commits_and_says}
 use Rattle.world_law.specs.Networks.{Network}
@@ -20,7 +18,7 @@ use Rattle.reach_law.proofs.Words.{known_stays, known_now, about, to_each_has}
 use Rattle.reach_law.proofs.Leads.{IsUp, Took, took_stay, took_up, took_later, took_new, spent}
 use Rattle.reach_law.proofs.Leads.{Leads, leads_more, leads_now, each, answered_leads, ask_leads}
 use Rattle.reach_law.proofs.Discovering.{sending}
-use Rattle.reach_law.specs.Running.{records_at, volatile_at}
+use Rattle.reach_law.specs.Running.{AreMembers, records_at, volatile_at}
 
 abbrev pub KnowsAt : SlotName → ℕ → Network → Type 0
 KnowsAt slot n w = (bag : BagId) × (known_of slot (records_at w n) ≡ Some bag)
@@ -35,7 +33,7 @@ took_known {w} {n} {commits} slot k t f = (
 )
 
 module _ (q : QuorumSystem) (running : List ℕ) (slot : SlotName) (before : ℕ)
-    (members : (n : ℕ) → Has n running → Has n q.members) (p : ℕ) (runs : Has p running) where
+    (members : AreMembers q running) (p : ℕ) (runs : Has p running) where
   pub record Spreading (w : Network) : Type 0 where
     pub up : (n : ℕ) → Has n running → IsUp w n
     pub later : before ≤ length w.sent
@@ -62,17 +60,14 @@ module _ (q : QuorumSystem) (running : List ℕ) (slot : SlotName) (before : ℕ
           → ((m : ℕ) → Has m running → KnowsAt slot m w → KnowsAt slot m x)
           → Took x p None (hears (volatile_at x p) (about slot (Ask n)))
           (to_each slot (Known p bag) (n ∷ [])) y
-          → (o : Option BagId) → known_of slot (records_at y n) ≡ o
-          → (e : Effect)
+          → (o : Option BagId) → known_of slot (records_at y n) ≡ o → (e : Effect)
           × (on_body q n (records_at y n) (volatile_at y n)
           (hears (volatile_at y n) (about slot (Known p bag))) slot (Known p bag) ≡ e)
           × ((z : Network) → Took y n e.commits e.volatile e.sends z
           → Leads q running slot before z k)
       told x y s bag stays t (Some old) e = (
         sending [] (hears (volatile_at y n) (about slot (Known p bag))),
-        ap (λ (o : Option BagId).
-            learning slot (unless_known o (Some bag))
-            (hears (volatile_at y n) (about slot (Known p bag)))) e,
+        rw e refl,
         λ z u.
             next z (spreading_stays u (spreading_stays t s))
             (took_known slot n u (old, e))
@@ -81,9 +76,7 @@ module _ (q : QuorumSystem) (running : List ℕ) (slot : SlotName) (before : ℕ
       told x y s bag stays t None e = (
         commits_and_says slot (Some (entry.Known bag)) (site_lines.Known slot bag)
             (hears (volatile_at y n) (about slot (Known p bag))),
-        ap (λ (o : Option BagId).
-            learning slot (unless_known o (Some bag))
-            (hears (volatile_at y n) (about slot (Known p bag)))) e,
+        rw e refl,
         λ z u.
             next z (spreading_stays u (spreading_stays t s))
             (bag, ap (known_of slot) u.records ∙ known_now slot (records_at y n) bag e)
@@ -99,16 +92,11 @@ module _ (q : QuorumSystem) (running : List ℕ) (slot : SlotName) (before : ℕ
           (n ∷ []) k runs h (s'.up p runs) (s'.up n h) s'.later
           (took_new t before _ s.later (to_each_has slot (Ask n) (p ∷ []) p (here refl)))
           refl refl (here refl)
-          (ap (λ (o : Option BagId).
-          telling p slot n o (hears (volatile_at x p) (about slot (Ask n)))) s'.knows.1)
+          (rw s'.knows.1 refl)
           (λ y u. told x y s' s'.knows.0 stays u (known_of slot (records_at y n)) refl)
 
       other : known_of slot (records_at w n) ≡ None → n ≡ p → ⊥
-      other e same =
-          none (sym e ∙ ap (λ (k : ℕ). known_of slot (records_at w k)) same ∙ s.knows.1)
-        where
-          none : {bag : BagId} → ◌≡◌ {A = Option BagId} None (Some bag) → ⊥
-          none g = cc
+      other e same = absurd (cc (sym (rw same at e) ∙ s.knows.1))
 
       go : (o : Option BagId) → known_of slot (records_at w n) ≡ o
           → Leads q running slot before w (3 + k)
@@ -120,13 +108,8 @@ module _ (q : QuorumSystem) (running : List ℕ) (slot : SlotName) (before : ℕ
           (ask_leads q running slot before members w n p (2 + k) h runs (s.up n h) e (other e)
           (λ x t. asked x (spreading_stays t s) (λ m h f. took_known slot m t f) t))
 
-  is_some_of : (o : Option BagId) (bag : BagId) → o ≡ Some bag → IsSome o
-  is_some_of o bag e = subst IsSome (sym e) refl
-
-  pub spreads : (w : Network) → Spreading w
-      → Leads q running slot before w (spent 3 running 0)
+  pub spreads : (w : Network) → Spreading w → Leads q running slot before w (spent 3 running 0)
   spreads w s =
       each q running slot before Spreading (KnowsAt slot) 3 visit running (λ n h. h) w s 0
       (λ y s' knows stays.
-      leads_now q running slot before y
-      (λ n h. is_some_of _ (knows n h).0 (knows n h).1))
+      leads_now q running slot before y (λ n h. rw (knows n h).1 refl))

@@ -1,6 +1,5 @@
 -- The example of three sites, computed.
-use Rattle.std.proofs.Common.{ℕ, ◌≡◌, refl, sym, [], ◌∷◌, length, Option, None, Some}
-use Rattle.std.proofs.Common.{◌∙◌, arith}
+use Rattle.std.proofs.Common.{ℕ, ◌≡◌, refl, sym, [], ◌∷◌, length, Option, None, Some, ◌∙◌, arith}
 use Rattle.fed_types.specs.Ballots.{BallotNumber, ballot_cmp}
 use Rattle.fed_types.specs.Lists.{Has, here, is_in}
 use Rattle.fed_types.specs.Sites.{sites_to}
@@ -56,5 +55,4 @@ can_be_undisturbed = record {
 
     nothing_promised : (n : ℕ) → Has n (1 ∷ 2 ∷ 3 ∷ [])
         → promised_of a (records_at deposited n) ≡ None
-    nothing_promised =
-        of_three (λ n. promised_of a (records_at deposited n) ≡ None) refl refl refl
+    nothing_promised = of_three (λ n. promised_of a (records_at deposited n) ≡ None) refl refl refl

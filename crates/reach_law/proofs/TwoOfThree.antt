@@ -1,6 +1,5 @@
 -- The example of three sites of which one is down, computed.
-use Rattle.std.proofs.Common.{ℕ, ◌≡◌, refl, sym, List, [], ◌∷◌, Option, None, Some}
-use Rattle.std.proofs.Common.{◌∙◌}
+use Rattle.std.proofs.Common.{ℕ, ◌≡◌, refl, sym, List, [], ◌∷◌, Option, None, Some, ◌∙◌}
 use Rattle.fed_types.specs.Ballots.{BallotNumber, ballot_cmp}
 use Rattle.fed_types.specs.Lists.{Has, here, is_in}
 use Rattle.fed_types.specs.Sites.{sites_to}
@@ -40,8 +39,7 @@ can_be_undisturbed_by_two = record {
     above = λ n c h e. absurd (none (sym (nothing_promised n h) ∙ e));
   };
   all = record {
-    no_others =
-        undisturbed_each three (1 ∷ 2 ∷ []) a (begun three deposited a 1) numbers refl;
+    no_others = undisturbed_each three (1 ∷ 2 ∷ []) a (begun three deposited a 1) numbers refl;
     each_one = λ number d l e same runs.
         has_each_among (1 ∷ 2 ∷ []) a numbers
         (in_the_end three deposited a 1 (arrive numbers)).sent number d refl e same runs;

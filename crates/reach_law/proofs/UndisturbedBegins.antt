@@ -1,8 +1,7 @@
 -- An undisturbed ballot is begun, and decided.
-use Rattle.std.proofs.Common.{ℕ, ◌≡◌, ◌≤◌, ◌+◌, Bool, cond, inl, inr}
-use Rattle.std.proofs.Common.{refl, sym, ap, subst, ◌∙◌, List, [], length}
+use Rattle.std.proofs.Common.{ℕ, ◌≡◌, ◌≤◌, ◌+◌, inr, refl, sym, ap, subst, ◌∙◌, List, [], length}
 use Rattle.std.proofs.Common.{Option, Some, arith}
-use Rattle.std.specs.Prelude.{IsSome, nat_lt}
+use Rattle.std.specs.Prelude.{nat_lt}
 use Rattle.fed_types.specs.declared.bag_id.BagId.{BagId}
 use Rattle.fed_types.specs.Ballots.{BallotNumber}
 use Rattle.fed_types.specs.Limits.{greatest_round}
@@ -17,30 +16,28 @@ use Rattle.records.specs.declared.record.Record.{Record}
 use Rattle.records.specs.SlotStates.{ballot_in, promised_of, used_of, deposit_of}
 use Rattle.records.proofs.Bounds.{used_bounds}
 use Rattle.dgram.specs.declared.body.Body.TheVariants.{Prepare, Accepted}
-use Rattle.dgram.specs.Heard.{bodies_of, promisers, voters_for}
+use Rattle.dgram.specs.Heard.{bodies_of, voters_for}
 use Rattle.dgram.proofs.Heard.{has_message, has_accepted}
-use Rattle.proposer.specs.Proposals.{gathered, next_ballot, last_round}
+use Rattle.proposer.specs.Proposals.{next_ballot, last_round}
 use Rattle.proposer.specs.VolatileStates.{VolatileState, with_current}
 use Rattle.schedule.specs.declared.fate.Fate.TheVariants.{Whole}
 use Rattle.site.specs.Effects.{to_each}
-use Rattle.world_law.specs.Networks.{Network, Event, datagram_at, happens, new_network, run}
+use Rattle.world_law.specs.Networks.{Network, Event, new_network, run}
 use Rattle.world_law.specs.Networks as networks
 use Rattle.world_law.proofs.Conditions.{given_if}
-use Rattle.world_law.proofs.Deeds.{carries_each}
 use Rattle.world_law.proofs.Induction.{accept_says, vote_asked}
 use Rattle.world_law.proofs.Kept.{Kept}
 use Rattle.world_law.proofs.Runs.{happens_kept, run_kept}
 use Rattle.reach_law.specs.Undisturbed.{CanOutbid, AllArrive, AllKnow, begun, in_the_end}
 use Rattle.reach_law.proofs.Words.{of_slot, said_self, promised_silent, deposit_stays, about}
-use Rattle.reach_law.proofs.Words.{to_each_has}
+use Rattle.reach_law.proofs.Words.{to_each_has, some_of, too_many}
 use Rattle.reach_law.proofs.Leads.{Took, took_stay, took_volatile, took_up, took_later, took_new}
 use Rattle.reach_law.proofs.Leads.{propose_took}
-use Rattle.reach_law.proofs.Leads.{numbered_cases}
-use Rattle.reach_law.proofs.Arrived.{onto, has_onto}
-use Rattle.reach_law.proofs.Undisturbed.{Inv, IsKind, run_all, known_in_the_end}
+use Rattle.dgram.specs.declared.body.Body.{Body}
+use Rattle.reach_law.proofs.Arrived.{news_each, kinds_more}
+use Rattle.reach_law.proofs.Undisturbed.{Inv, KindOf, all_know}
 use Rattle.reach_law.proofs.Promising.{vote_for, none_gathered}
 use Rattle.reach_law.specs.Running.{records_at, volatile_at, AreMembers}
-use Rattle.reach_law.proofs.Words.{some_of, too_many}
 
 module _ (q : QuorumSystem) (laws : AreQuorums q) (running : List ℕ) (slot : SlotName)
     (members : AreMembers q running) (quorum : IsQuorum q running) (w : Network) (kept : Kept q w)
@@ -80,8 +77,7 @@ module _ (q : QuorumSystem) (laws : AreQuorums q) (running : List ℕ) (slot : S
   t = propose_took q running slot before members w p b own.0 can.ready.runs
       (can.ready.up p can.ready.runs) can.ready.unknown own.1 can.next
 
-  promised_same : (n : ℕ)
-      → promised_of slot (records_at x n) ≡ promised_of slot (records_at w n)
+  promised_same : (n : ℕ) → promised_of slot (records_at x n) ≡ promised_of slot (records_at w n)
   promised_same n =
       took_stay
       (λ (rs : List Record). promised_of slot rs ≡ promised_of slot (records_at w n)) t
@@ -111,7 +107,7 @@ module _ (q : QuorumSystem) (laws : AreQuorums q) (running : List ℕ) (slot : S
       let round = ap (λ (c : BallotNumber). c.round) is_made in
       omega (arith, used, round)
 
-  begins : Inv q laws running slot before members quorum p can.ready.runs own.0 b mine old x []
+  begins : Inv q laws running slot before members quorum p can.ready.runs own.0 b mine old x
   begins = record {
     kept = (happens_kept q laws w kept (networks.Propose p slot Whole)).kept;
     prepared = λ n h.
@@ -121,59 +117,34 @@ module _ (q : QuorumSystem) (laws : AreQuorums q) (running : List ℕ) (slot : S
     deposit =
         took_stay (λ (rs : List Record). deposit_of slot rs ≡ Some own.0) t
         (λ e. deposit_stays slot (records_at w p) own.0 e round_noted) p own.1;
-    is_current =
-        ap (λ (s : VolatileState). s.current slot) t.volatile_is
-        ∙ ap (λ (t : Bool).
-        cond t (Some (record { ballot = b; heard_before = old })) ((volatile_at w p).current slot))
-        ((same_slot_decides slot slot).1 refl);
+    is_current = rw (t.volatile_is, (same_slot_decides slot slot).1 refl) refl;
     within = rw (heard_same p) (omega arith);
-    low = λ n h a e k.
-        Below-asymmetric a b (can.above n a h (sym (promised_same n) ∙ e)) (inr k);
-    answered = λ n h e.
-        absurd (Below-irreflexive b (can.above n b h (sym (promised_same n) ∙ e)));
-    kinds = λ number d l e.
-        elim (numbered_cases number w.sent (to_each slot (Prepare b) q.members) d
-        (sym (ap (datagram_at number) t.sent) ∙ e)) [
-          | inl was ↦ absurd (too_many number w.sent d l was)
-          | inr new ↦
-              let c = carries_each slot (Prepare b) q.members d new in
-              subst
-              (IsKind q laws running slot before members quorum p can.ready.runs own.0 b mine old x)
-              c.is (λ e. refl)
-        ];
+    low = λ n h a e k. Below-asymmetric a b (can.above n a h (sym (promised_same n) ∙ e)) (inr k);
+    answered = λ n h e. absurd (Below-irreflexive b (can.above n b h (sym (promised_same n) ∙ e)));
+    kinds =
+        kinds_more slot kind before t.sent
+        (λ number d l was. absurd (too_many number w.sent d l was))
+        (news_each slot kind q.members (Prepare b) (λ n. refl));
     asks = λ e.
-        let none =
-        ap (λ heard. promisers (gathered slot (record {
-          ballot = b;
-          heard_before = old;
-        }) heard)) (heard_same p)
-        ∙ none_gathered q laws running slot before members quorum p can.ready.runs b
-        (volatile_at w p).heard in
-        let nobody = subst (IsQuorum q) none e in
+        let nobody = rw (heard_same p, none_gathered slot b (volatile_at w p).heard) at e in
         let met = laws.meet [] [] nobody nobody in
         absurd (has_none met.2);
     learns = λ m h v e.
-        let voters =
-        subst (λ heard. IsQuorum q (voters_for (vote_for b v) (bodies_of slot heard)))
-        (heard_same m) e in
+        let voters = rw (heard_same m) at e in
         let met = laws.meet _ _ voters voters in
         absurd (no_voter m met.0 v met.2);
-    arrived = λ number h. absurd (has_none h);
   }
+    where
+      kind : (to : ℕ) → Body → Type 0
+      kind = KindOf q laws running slot before members quorum p can.ready.runs own.0 b mine old x
 
   pub decided : (events : List Event) → AllArrive q w running slot p events
       → AllKnow (in_the_end q w slot p events) running slot
   decided events all n h =
-      let inv =
-      run_all q laws running slot before members quorum p can.ready.runs own.0 b mine old events x
-      [] begins all.no_others in
       let knows =
-      known_in_the_end q laws running slot before members quorum p can.ready.runs own.0 b mine old
-      (in_the_end q w slot p events) (onto events []) inv
-      (λ number d l e of_slot h'.
-      has_onto events [] number (inl (all.each_one number d l e of_slot h')))
-      n h in
-      subst IsSome (sym knows.1) refl
+      all_know q laws running slot before members quorum p can.ready.runs own.0 b mine old events x
+      begins all.no_others all.each_one n h in
+      rw knows.1 refl
 
 pub undisturbed : (q : QuorumSystem) (history : List Event) (running : List ℕ) (slot : SlotName)
     (site : ℕ) (events : List Event) → AreQuorums q → AreMembers q running → IsQuorum q running

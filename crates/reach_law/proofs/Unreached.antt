@@ -1,17 +1,14 @@
 -- Where none of those that run knows a bag, has voted or has a deposit, none of them comes to know
 -- one.
-use Rattle.std.proofs.Common.{ℕ, ◌≡◌, ◌<◌, Bool, true, false, cond, inl, inr, refl}
-use Rattle.std.proofs.Common.{sym, ap, ◌∙◌, List, [], ◌∷◌, ◌++◌, length, Option, None, Some}
-use Rattle.std.proofs.Common.{append-nil}
+use Rattle.std.proofs.Common.{ℕ, ◌≡◌, ◌<◌, Bool, true, false, cond, inl, inr, refl, sym, ap, ◌∙◌}
+use Rattle.std.proofs.Common.{List, [], ◌∷◌, ◌++◌, length, None, Some, append-nil, eq-eqb}
 use Rattle.std.specs.Bool.{◌==◌}
 use Rattle.std.specs.Option.{option_to_list}
 use Rattle.std.proofs.lemmas.Bool.{cases_eq, ne_eqb}
-use Rattle.std.proofs.Common.{eq-eqb}
 use Rattle.fed_types.specs.Lists.{Has, is_in}
 use Rattle.fed_types.specs.Quorums.{QuorumSystem}
 use Rattle.fed_types.specs.Slots.{SlotName}
 use Rattle.fed_types.specs.Laws.Lists.{has_none, has_one}
-use Rattle.records.specs.declared.record.Record.{Record}
 use Rattle.records.specs.SlotStates.{vote_of, deposit_of, known_of}
 use Rattle.dgram.specs.declared.body.Body.TheVariants.{Ask}
 use Rattle.proposer.specs.VolatileStates.{VolatileState, new_volatile, hears}
@@ -21,14 +18,13 @@ use Rattle.site.specs.Calls.{Input, Proposes, Recovers, Asks, Arrives, effect_of
 use Rattle.site.specs.Calls.{on_recover, on_ask}
 use Rattle.site.specs.Effects.{Effect, Send, to_each}
 use Rattle.world_law.specs.Networks.{Mode, Up, Down, NeedsOpening, SiteState, Network, Event}
-use Rattle.world_law.specs.Networks.{SiteOutcome, Deliver, Start, datagram_at, nothing, happening}
-use Rattle.world_law.specs.Networks.{reaches, takes, arrives, starts, opened, outcome, happens, run}
+use Rattle.world_law.specs.Networks.{Deliver, Start, datagram_at, nothing, reaches, takes, starts}
+use Rattle.world_law.specs.Networks.{outcome, happens, run}
 use Rattle.world_law.specs.Networks as networks
 use Rattle.reach_law.proofs.Leads.{numbered_cases}
-use Rattle.reach_law.proofs.Words.{about}
+use Rattle.reach_law.proofs.Words.{about, too_many}
 use Rattle.reach_law.specs.Running.{records_at}
 use Rattle.reach_law.specs.Reach.{IsCalm, AreCalm, HaveNothing, StaysUnknown}
-use Rattle.reach_law.proofs.Words.{too_many}
 
 module _ (q : QuorumSystem) (running : List ℕ) (slot : SlotName) (w : Network)
     (have : HaveNothing w running slot) where
@@ -66,12 +62,8 @@ module _ (q : QuorumSystem) (running : List ℕ) (slot : SlotName) (w : Network)
       → Still (became x n site sends)
   became_still x s n site sends same asks = record {
     records = λ k. elim (cases_eq k n) [
-      | inl is ↦
-          ap (λ (t : Bool). (cond t site (x.sites k)).records) (eq-eqb k n is)
-          ∙ same ∙ ap (λ (k : ℕ). records_at x k) (sym is) ∙ s.records k
-      | inr differ ↦
-          ap (λ (t : Bool). (cond t site (x.sites k)).records) (ne_eqb k n differ)
-          ∙ s.records k
+      | inl is ↦ rw (eq-eqb k n is, records_at) (same ∙ rw (← is) (s.records k))
+      | inr differ ↦ rw (ne_eqb k n differ, records_at) (s.records k)
     ];
     asks = λ number d l e. elim (numbered_cases number x.sent sends d e) [
       | inl old ↦ s.asks number d l old
@@ -81,10 +73,6 @@ module _ (q : QuorumSystem) (running : List ℕ) (slot : SlotName) (w : Network)
 
   no_sends : (d : Send) → Has d [] → IsAsk d
   no_sends d h = absurd (has_none h)
-
-  member_still : (x y : Network) → Still x → Still y → (t : Bool) → Still (cond t y x)
-  member_still x y s s' true = s'
-  member_still x y s s' false = s
 
   -- what an effect comes to that records nothing and sends only questions
   record Quiet (e : Effect) : Type 0 where
@@ -109,8 +97,7 @@ module _ (q : QuorumSystem) (running : List ℕ) (slot : SlotName) (w : Network)
             mode = Up e.volatile;
           })
           e.sends
-          (ap (λ (o : Option Record). records_at x n ++ option_to_list o) still.none
-          ∙ append-nil (records_at x n))
+          (rw (still.none, append-nil (records_at x n)) refl)
           still.asks
       reached NeedsOpening is =
           became_still x s n
@@ -127,14 +114,14 @@ module _ (q : QuorumSystem) (running : List ℕ) (slot : SlotName) (w : Network)
       → Quiet (on_propose q n (records_at x n) v slot)
   unfolding on_propose
   quiet_propose x s n h v =
-      rw (known_none x s n h) (rw (deposit_none x s n h) (record { none = refl; asks = no_sends }))
+      rw (known_none x s n h, deposit_none x s n h) (record { none = refl; asks = no_sends })
 
   quiet_recover : (x : Network) → Still x → (n : ℕ) → Has n running → (v : VolatileState)
       → Quiet (on_recover q n (records_at x n) v slot)
   unfolding on_recover
   quiet_recover x s n h v =
-      rw (known_none x s n h) (rw (vote_none x s n h) (rw (deposit_none x s n h)
-      (record { none = refl; asks = no_sends })))
+      rw (known_none x s n h, vote_none x s n h, deposit_none x s n h)
+      (record { none = refl; asks = no_sends })
 
   quiet_ask : (n m : ℕ) (v : VolatileState) → Quiet (on_ask n v slot m)
   unfolding on_ask to_each
@@ -143,16 +130,14 @@ module _ (q : QuorumSystem) (running : List ℕ) (slot : SlotName) (w : Network)
     asks = λ d h. (n, ap (λ (d : Send). d.message) (sym (has_one h)));
   }
 
-  quiet_arrival : (x : Network) → Still x → (n : ℕ) → Has n running → (m : ℕ)
-      → (v : VolatileState)
+  quiet_arrival : (x : Network) → Still x → (n : ℕ) → Has n running → (m : ℕ) → (v : VolatileState)
       → Quiet (on_arrival q n (records_at x n) v (Some (about slot (Ask m))))
   unfolding on_arrival on_body
   quiet_arrival x s n h m v = go (is_in q.members m)
     where
       told : Quiet
           (telling n slot m (known_of slot (records_at x n)) (hears v (about slot (Ask m))))
-      told =
-          rw (known_none x s n h) (record { none = refl; asks = no_sends })
+      told = rw (known_none x s n h) (record { none = refl; asks = no_sends })
 
       go : (t : Bool)
           → Quiet (cond t
@@ -171,8 +156,7 @@ module _ (q : QuorumSystem) (running : List ℕ) (slot : SlotName) (w : Network)
 
   starts_still : (x : Network) → Still x → (n : ℕ) (mode : Mode) → Still (starts x n mode).network
   starts_still x s n (Up v) = s
-  starts_still x s n Down = opened_still x s n
-  starts_still x s n NeedsOpening = opened_still x s n
+  starts_still x s n _ = opened_still x s n
 
   step_still : (x : Network) → Still x → (e : Event)
       → IsCalm running slot (length w.sent) x e → Still (happens q x e).network
@@ -199,8 +183,7 @@ module _ (q : QuorumSystem) (running : List ℕ) (slot : SlotName) (w : Network)
       → AreCalm q running slot (length w.sent) x events → Still (run q x events)
   unfolding run AreCalm
   run_still [] x s h = s
-  run_still (e ∷ events) x s h =
-      run_still events (happens q x e).network (step_still x s e h.0) h.1
+  run_still (e ∷ events) x s h = run_still events (happens q x e).network (step_still x s e h.0) h.1
 
   pub stays_unknown : StaysUnknown q w running slot
   stays_unknown events calm n h =

@@ -1,12 +1,10 @@
 -- Those that run are asked to vote: they do, and the site that asked hears it, and knows the bag.
-use Rattle.std.proofs.Common.{ℕ, ◌≡◌, ◌≤◌, ◌+◌, ◌⊎◌, Bool, true, false, cond, ◌||◌, inl, inr}
-use Rattle.std.proofs.Common.{refl, sym, ap, subst, ◌∙◌, List, [], ◌∷◌, ◌++◌, length}
-use Rattle.std.proofs.Common.{Option, None, Some}
+use Rattle.std.proofs.Common.{ℕ, ◌≡◌, ◌≤◌, ◌+◌, ◌⊎◌, Bool, true, false, cond, ◌||◌, inl, inr, refl}
+use Rattle.std.proofs.Common.{sym, ap, subst, ◌∙◌, List, [], ◌∷◌, ◌++◌, length, Option, None, Some}
 use Rattle.std.specs.Option.{option_to_list}
-use Rattle.std.proofs.lemmas.Bool.{false≢true, false_from_ne_true, and_from}
+use Rattle.std.proofs.lemmas.Bool.{false≢true, false_from_ne_true}
 use Rattle.fed_types.specs.declared.bag_id.BagId.{BagId}
 use Rattle.fed_types.specs.declared.vote.Vote.{Vote}
-use Rattle.fed_types.specs.Bags.{same_bag}
 use Rattle.fed_types.specs.Ballots.{BallotNumber, below, Below, same_ballot}
 use Rattle.fed_types.specs.Lists.{Has, here}
 use Rattle.fed_types.specs.Quorums.{QuorumSystem, IsQuorum, AreQuorums}
@@ -34,11 +32,10 @@ use Rattle.world_law.specs.Networks.{Network}
 use Rattle.reach_law.proofs.Words.{of_slot, said_self, Silent, promised_silent, vote_silent}
 use Rattle.reach_law.proofs.Words.{known_stays, known_now, vote_now, about, body_self, hears_more}
 use Rattle.reach_law.proofs.Words.{to_site}
-use Rattle.reach_law.proofs.Leads.{IsUp, Fresh, Took, took_stay, took_volatile, took_up}
-use Rattle.reach_law.proofs.Leads.{took_later, took_fresh, spent, Leads, each}
-use Rattle.reach_law.proofs.Leads.{answered_leads}
+use Rattle.reach_law.proofs.Leads.{IsUp, Fresh, Took, took_stay, took_volatile, took_up, took_later}
+use Rattle.reach_law.proofs.Leads.{took_fresh, spent, Leads, each, answered_leads}
 use Rattle.reach_law.proofs.Discovering.{sending}
-use Rattle.reach_law.specs.Running.{records_at, volatile_at}
+use Rattle.reach_law.specs.Running.{AreMembers, records_at, volatile_at}
 
 -- ---- an acceptor that is asked for a vote
 
@@ -49,12 +46,39 @@ CanVote slot vote rs =
     ⊎ ((promised_of slot rs ≡ Some vote.ballot)
     × ((u : Vote) → vote_of slot rs ≡ Some u → Below u.ballot vote.ballot))
 
+-- it votes, again or anew, or a promised ballot stands in the way
+abbrev pub VotesOrRefuses : SlotName → List Record → Vote → Decision → Type 0
+VotesOrRefuses slot rs vote d =
+    ((d ≡ votes_again vote) ⊎ (d ≡ votes vote))
+    ⊎ ((a : BallotNumber) × (promised_of slot rs ≡ Some a) × (d ≡ refuses vote.ballot a))
+
+pub accept_cases : (slot : SlotName) (rs : List Record) (vote : Vote)
+    → VotesOrRefuses slot rs vote (accept_decision slot rs vote)
+unfolding accept_decision
+accept_cases slot rs vote = again (is_vote vote (vote_of slot rs))
+  where
+    stands : (a : BallotNumber) → promised_of slot rs ≡ Some a → (t : Bool)
+        → VotesOrRefuses slot rs vote (cond t (refuses vote.ballot a) (votes vote))
+    stands a is true = inr (a, is, refl)
+    stands a is false = inl (inr refl)
+
+    new : (o : Option BallotNumber) → promised_of slot rs ≡ o
+        → VotesOrRefuses slot rs vote (on_new_accept o (vote_of slot rs) vote)
+    new None is = inl (inr refl)
+    new (Some a) is =
+        stands a is (below vote.ballot a || is_in_ballot vote.ballot (vote_of slot rs))
+
+    again : (t : Bool) → VotesOrRefuses slot rs vote
+        (cond t (votes_again vote) (on_new_accept (promised_of slot rs) (vote_of slot rs) vote))
+    again true = inl (inl refl)
+    again false = new (promised_of slot rs) refl
+
 module _ (slot : SlotName) (vote : Vote) (rs : List Record) where
   pub is_vote_itself : is_vote vote (Some vote) ≡ true
-  is_vote_itself =
-      and_from (same_ballot vote.ballot vote.ballot) (same_bag vote.bag vote.bag)
-      ((same_ballot_decides vote.ballot vote.ballot).1 refl)
-      ((same_bag_decides vote.bag vote.bag).1 refl)
+  is_vote_itself = rw (
+    (same_ballot_decides vote.ballot vote.ballot).1 refl,
+    (same_bag_decides vote.bag vote.bag).1 refl,
+  ) refl
 
   not_below : below vote.ballot vote.ballot ≡ false
   not_below =
@@ -68,36 +92,23 @@ module _ (slot : SlotName) (vote : Vote) (rs : List Record) where
       false_from_ne_true (same_ballot u.ballot vote.ballot)
       (λ e.
       Below-irreflexive vote.ballot
-      (subst (λ (b : BallotNumber). Below b vote.ballot)
-      ((same_ballot_decides u.ballot vote.ballot).0 e) (l u refl)))
+      (rw ((same_ballot_decides u.ballot vote.ballot).0 e) at (l u refl)))
 
   -- voting again
   pub decides_again : is_vote vote (vote_of slot rs) ≡ true
       → accept_decision slot rs vote ≡ votes_again vote
   unfolding accept_decision
-  decides_again e =
-      ap (λ (t : Bool).
-      cond t (votes_again vote) (on_new_accept (promised_of slot rs) (vote_of slot rs) vote)) e
+  decides_again e = rw e refl
 
-  pub decides_new : is_vote vote (vote_of slot rs) ≡ false
-      → promised_of slot rs ≡ Some vote.ballot
+  pub decides_new : is_vote vote (vote_of slot rs) ≡ false → promised_of slot rs ≡ Some vote.ballot
       → ((u : Vote) → vote_of slot rs ≡ Some u → Below u.ballot vote.ballot)
       → accept_decision slot rs vote ≡ votes vote
   unfolding accept_decision
-  decides_new other promised l =
-      ap (λ (t : Bool).
-      cond t (votes_again vote) (on_new_accept (promised_of slot rs) (vote_of slot rs) vote)) other
-      ∙ ap (λ (o : Option BallotNumber). on_new_accept o (vote_of slot rs) vote) promised
-      ∙ ap (λ (t : Bool).
-      cond (t || is_in_ballot vote.ballot (vote_of slot rs))
-      (refuses vote.ballot vote.ballot) (votes vote)) not_below
-      ∙ ap (λ (t : Bool). cond t (refuses vote.ballot vote.ballot) (votes vote))
-      (not_in (vote_of slot rs) l)
+  decides_new other promised l = rw (other, promised, not_below, not_in (vote_of slot rs) l) refl
 
   pub can_stays : (o : Option Record) → Silent vote_in slot o → Silent ballot_in slot o
       → CanVote slot vote rs → CanVote slot vote (rs ++ option_to_list o)
-  can_stays o v b (inl e) =
-      inl (ap (is_vote vote) (vote_silent slot rs o v) ∙ e)
+  can_stays o v b (inl e) = inl (ap (is_vote vote) (vote_silent slot rs o v) ∙ e)
   can_stays o v b (inr c) =
       inr (
         promised_silent slot rs o b ∙ c.0,
@@ -117,10 +128,10 @@ voter_self slot vote heard n =
     (filter_map_has (body_in slot) (about slot (Accepted n vote)) (Accepted n vote)
     (hears_more heard slot (Accepted n vote)) (has_right heard (here refl))
     (body_self slot (Accepted n vote)))
-    (ap (λ (t : Bool). cond t (Some n) None)
-    (and_from (same_ballot vote.ballot vote.ballot) (same_bag vote.bag vote.bag)
-    ((same_ballot_decides vote.ballot vote.ballot).1 refl)
-    ((same_bag_decides vote.bag vote.bag).1 refl)))
+    (rw (
+      (same_ballot_decides vote.ballot vote.ballot).1 refl,
+      (same_bag_decides vote.bag vote.bag).1 refl,
+    ) refl)
 
 pub voters_stay : (slot : SlotName) (vote : Vote) (heard : List Message) (m : Message) (n : ℕ)
     → Has n (voters_for vote (bodies_of slot heard))
@@ -131,8 +142,8 @@ voters_stay slot vote heard m n h =
     (has_left (voters_for vote (bodies_of slot (m ∷ []))) h))
 
 module _ (q : QuorumSystem) (running : List ℕ) (slot : SlotName) (before : ℕ)
-    (members : (n : ℕ) → Has n running → Has n q.members) (p : ℕ) (runs : Has p running)
-    (vote : Vote) (mine : vote.ballot.site ≡ p) where
+    (members : AreMembers q running) (p : ℕ) (runs : Has p running) (vote : Vote)
+    (mine : vote.ballot.site ≡ p) where
   abbrev pub voters_at : Network → List ℕ
   voters_at w = voters_for vote (bodies_of slot (volatile_at w p).heard)
 
@@ -147,22 +158,20 @@ module _ (q : QuorumSystem) (running : List ℕ) (slot : SlotName) (before : ℕ
   pub record Voting (w : Network) : Type 0 where
     pub up : (n : ℕ) → Has n running → IsUp w n
     pub later : before ≤ length w.sent
-    pub asked : (n : ℕ) → Has n running
-        → Fresh before w.sent (to_site n slot (Accept vote))
+    pub asked : (n : ℕ) → Has n running → Fresh before w.sent (to_site n slot (Accept vote))
     pub can : (n : ℕ) → Has n running → CanVote slot vote (records_at w n)
 
   -- ---- a vote more
 
-  module _ (w x y : Network) (n : ℕ) (h : Has n running) (commits learned : Option Record)
-      (sends sends' : List Send) (g : Voting w)
+  module _ {w x y : Network} {n : ℕ} {commits learned : Option Record}
+      {sends sends' : List Send} (g : Voting w)
       (t : Took w n commits (hears (volatile_at w n) (about slot (Accept vote))) sends x)
       (u : Took x p learned (hears (volatile_at x p) (about slot (Accepted n vote))) sends' y)
       (can_first : CanVote slot vote (records_at w n ++ option_to_list commits))
       (no_vote : Silent vote_in slot learned) (no_ballot : Silent ballot_in slot learned)
       (knows : IsQuorum q (voters_at y) → Knows y) where
     heard_now : Has n (voters_at y)
-    heard_now =
-        rw u.volatile_is (voter_self slot vote (volatile_at x p).heard n)
+    heard_now = rw u.volatile_is (voter_self slot vote (volatile_at x p).heard n)
 
     heard_stays : (m : ℕ) → Has m (voters_at w) → Has m (voters_at y)
     heard_stays m has =
@@ -172,12 +181,6 @@ module _ (q : QuorumSystem) (running : List ℕ) (slot : SlotName) (before : ℕ
         (took_volatile
         (λ (s : VolatileState). Has m (voters_for vote (bodies_of slot s.heard))) t
         (λ k. voters_stay slot vote (volatile_at w n).heard _ m k) p has)
-
-    voted : HasVoted n y
-    voted = record { heard = heard_now; known = knows }
-
-    voted_stays : (m : ℕ) → Has m running → HasVoted m w → HasVoted m y
-    voted_stays m h' d = record { heard = heard_stays m d.heard; known = knows }
 
     voting_stays : Voting y
     voting_stays = record {
@@ -189,6 +192,14 @@ module _ (q : QuorumSystem) (running : List ℕ) (slot : SlotName) (before : ℕ
           (λ c. can_stays slot vote (records_at x p) learned no_vote no_ballot c) m
           (took_stay (CanVote slot vote) t (λ c. can_first) m (g.can m h'));
     }
+
+    goes_on : {k : ℕ}
+        → ((y : Network) → Voting y → HasVoted n y
+        → ((m : ℕ) → Has m running → HasVoted m w → HasVoted m y) → Leads q running slot before y k)
+        → Leads q running slot before y k
+    goes_on next =
+        next y voting_stays (record { heard = heard_now; known = knows })
+        (λ m h' d. record { heard = heard_stays m d.heard; known = knows })
 
   module _ (n : ℕ) (h : Has n running) (w : Network) (g : Voting w) (k : ℕ)
       (next : (y : Network) → Voting y → HasVoted n y
@@ -223,14 +234,7 @@ module _ (q : QuorumSystem) (running : List ℕ) (slot : SlotName) (before : ℕ
           (Accepted n vote)
           ≡ learning slot (unless_known o (cond t (Some vote.bag) None)) (heard_at x)
       unfolding on_body chosen_by
-      learned_is x o e t f =
-          ap (λ (o : Option BagId).
-          learning slot (unless_known o
-          (cond (q.is_quorum (voters_for vote (bodies_of slot
-          (hears_more (volatile_at x p).heard slot (Accepted n vote))))) (Some vote.bag)
-          None)) (heard_at x)) e
-          ∙ ap (λ (t : Bool).
-          learning slot (unless_known o (cond t (Some vote.bag) None)) (heard_at x)) f
+      learned_is x o e t f = rw (e, f) refl
 
       hears_it : (x : Network) → First x → (o : Option BagId)
           → known_of slot (records_at x p) ≡ o → (t : Bool)
@@ -247,9 +251,7 @@ module _ (q : QuorumSystem) (running : List ℕ) (slot : SlotName) (before : ℕ
               took_stay (λ (rs : List Record). known_of slot rs ≡ Some bag) u
                   (λ e. known_stays slot (records_at x p) bag e None) p e,
             ) in
-            next y (voting_stays w x y n h _ None _ _ g t u can tt tt knows)
-            (voted w x y n h _ None _ _ g t u can tt tt knows)
-            (voted_stays w x y n h _ None _ _ g t u can tt tt knows),
+            goes_on g t u can tt tt knows next,
       )
       hears_it x t None e true f = (
         commits_and_says slot (Some (entry.Known vote.bag)) (site_lines.Known slot vote.bag)
@@ -258,14 +260,11 @@ module _ (q : QuorumSystem) (running : List ℕ) (slot : SlotName) (before : ℕ
         λ y u.
             let knows : IsQuorum q (voters_at y) → Knows y = λ quorum. (
               vote.bag,
-              ap (known_of slot) u.records
-                  ∙ known_now slot (records_at x p) vote.bag e,
+              ap (known_of slot) u.records ∙ known_now slot (records_at x p) vote.bag e,
             ) in
             let v = said_self vote_in slot (entry.Known vote.bag) in
             let b = said_self ballot_in slot (entry.Known vote.bag) in
-            next y (voting_stays w x y n h _ _ _ _ g t u can v b knows)
-            (voted w x y n h _ _ _ _ g t u can v b knows)
-            (voted_stays w x y n h _ _ _ _ g t u can v b knows),
+            goes_on g t u can v b knows next,
       )
       hears_it x t None e false f = (
         sending [] (heard_at x),
@@ -275,9 +274,7 @@ module _ (q : QuorumSystem) (running : List ℕ) (slot : SlotName) (before : ℕ
             absurd (false≢true (sym f
             ∙ subst (λ (s : VolatileState).
             IsQuorum q (voters_for vote (bodies_of slot s.heard))) u.volatile_is quorum)) in
-            next y (voting_stays w x y n h _ None _ _ g t u can tt tt knows)
-            (voted w x y n h _ None _ _ g t u can tt tt knows)
-            (voted_stays w x y n h _ None _ _ g t u can tt tt knows),
+            goes_on g t u can tt tt knows next,
       )
 
       asks : decided q n slot vote.ballot.site

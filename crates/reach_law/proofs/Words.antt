@@ -1,8 +1,8 @@
 -- What one more record, or one more message that was heard, makes of the words of a slot.
-use Rattle.std.proofs.Common.{ℕ, ◌≡◌, ◌≤◌, max, Bool, true, false, cond, inl, inr}
-use Rattle.std.proofs.Common.{refl, ap, ◌∙◌, List, [], ◌∷◌, ◌++◌, length}
-use Rattle.std.proofs.Common.{Option, None, Some, append-nil, arith, length-append}
-use Rattle.std.specs.Prelude.{⊤}
+use Rattle.std.proofs.Common.{not, ◌&&◌, ℕ, ◌≡◌, ◌≤◌, max, Bool, true, false, cond, inl, inr, ◌⊎◌}
+use Rattle.std.proofs.Common.{refl, ap, ◌∙◌, List, [], ◌∷◌, ◌++◌, length, Option, None, Some}
+use Rattle.std.proofs.Common.{append-nil, arith, length-append, zero, suc, ◌<◌}
+use Rattle.std.specs.Prelude.{⊤, IsSome}
 use Rattle.std.specs.Option.{option_to_list}
 use Rattle.fed_types.specs.declared.bag_id.BagId.{BagId}
 use Rattle.fed_types.specs.declared.vote.Vote.{Vote}
@@ -16,22 +16,18 @@ use Rattle.records.specs.declared.entry.Entry.{Entry}
 use Rattle.records.specs.declared.entry.Entry.TheVariants as entry
 use Rattle.records.specs.declared.record.Record.{Record}
 use Rattle.records.specs.SlotStates.{higher, earlier, with_one, if_some, said_in, ballot_in}
-use Rattle.records.specs.SlotStates.{vote_in, round_in, deposit_in, known_in}
-use Rattle.records.specs.SlotStates.{promised_of, vote_of, used_of, deposit_of, known_of}
+use Rattle.records.specs.SlotStates.{vote_in, round_in, deposit_in, known_in, promised_of, vote_of}
+use Rattle.records.specs.SlotStates.{used_of, deposit_of, known_of}
 use Rattle.records.proofs.Bounds.{promised_bounds, vote_among}
-use Rattle.records.proofs.SlotStates.{promised-push, vote-push, used-push, deposit-push}
-use Rattle.records.proofs.SlotStates.{known-push}
+use Rattle.records.proofs.SlotStates.{promised-push, vote-push, used-push, deposit-push, known-push}
 use Rattle.dgram.specs.declared.body.Body.{Body}
 use Rattle.dgram.specs.declared.body.Body.TheVariants.{Refused}
 use Rattle.dgram.specs.declared.message.Message.{Message}
-use Rattle.dgram.specs.Heard.{body_in, bodies_of, refused_round, floor_of}
-use Rattle.dgram.specs.Heard.{promise_in, PromiseFrom}
+use Rattle.dgram.specs.Heard.{body_in, bodies_of, refused_round, floor_of, promise_in, PromiseFrom}
 use Rattle.proposer.specs.Proposals.{Current, gathered}
 use Rattle.proposer.proofs.Gathered.{one_of, gathered-push, floor-push}
 use Rattle.site.specs.Effects.{Send, to_each}
 use Rattle.world_law.proofs.Order.{below_at_most}
-use Rattle.std.proofs.Common.{zero, suc, ◌<◌}
-use Rattle.std.specs.Prelude.{IsSome}
 use Rattle.std.proofs.lemmas.Option.{slice_get_within}
 use Rattle.world_law.specs.Networks.{datagram_at}
 use Rattle.reach_law.specs.Running.{HasVoteOrDeposit}
@@ -68,19 +64,17 @@ module _ (slot : SlotName) (rs : List Record) where
   pub promised_silent : (o : Option Record) → Silent ballot_in slot o
       → promised_of slot (rs ++ option_to_list o) ≡ promised_of slot rs
   promised_silent None h = ap (promised_of slot) (append-nil rs)
-  promised_silent (Some r) h =
-      promised-push slot rs r ∙ ap (with_one (higher (λ b. b)) (promised_of slot rs)) h
+  promised_silent (Some r) h = rw (promised-push slot rs r, h) refl
 
   pub vote_silent : (o : Option Record) → Silent vote_in slot o
       → vote_of slot (rs ++ option_to_list o) ≡ vote_of slot rs
   vote_silent None h = ap (vote_of slot) (append-nil rs)
-  vote_silent (Some r) h =
-      vote-push slot rs r ∙ ap (with_one (higher (λ v. v.ballot)) (vote_of slot rs)) h
+  vote_silent (Some r) h = rw (vote-push slot rs r, h) refl
 
   pub used_silent : (o : Option Record) → Silent round_in slot o
       → used_of slot (rs ++ option_to_list o) ≡ used_of slot rs
   used_silent None h = ap (used_of slot) (append-nil rs)
-  used_silent (Some r) h = used-push slot rs r ∙ ap (with_one max (used_of slot rs)) h
+  used_silent (Some r) h = rw (used-push slot rs r, h) refl
 
   -- the deposit and the known bag stay
   first_stays : (v : BagId) (s : Option BagId) → with_one earlier (Some v) s ≡ Some v
@@ -91,17 +85,12 @@ module _ (slot : SlotName) (rs : List Record) where
       → deposit_of slot (rs ++ option_to_list o) ≡ Some v
   deposit_stays v e None = ap (deposit_of slot) (append-nil rs) ∙ e
   deposit_stays v e (Some r) =
-      deposit-push slot rs r
-      ∙ ap (λ (o : Option BagId). with_one earlier o (said_in deposit_in slot r)) e
-      ∙ first_stays v (said_in deposit_in slot r)
+      rw (deposit-push slot rs r, e) (first_stays v (said_in deposit_in slot r))
 
   pub known_stays : (v : BagId) → known_of slot rs ≡ Some v → (o : Option Record)
       → known_of slot (rs ++ option_to_list o) ≡ Some v
   known_stays v e None = ap (known_of slot) (append-nil rs) ∙ e
-  known_stays v e (Some r) =
-      known-push slot rs r
-      ∙ ap (λ (o : Option BagId). with_one earlier o (said_in known_in slot r)) e
-      ∙ first_stays v (said_in known_in slot r)
+  known_stays v e (Some r) = rw (known-push slot rs r, e) (first_stays v (said_in known_in slot r))
 
   -- so does it that there is a vote, or a deposit
   higher_some : (v : Vote) (s : Option Vote)
@@ -135,49 +124,49 @@ module _ (slot : SlotName) (rs : List Record) where
   pub known_now : (v : BagId) → known_of slot rs ≡ None
       → known_of slot (rs ++ of_slot slot (entry.Known v) ∷ []) ≡ Some v
   known_now v e =
-      known-push slot rs (of_slot slot (entry.Known v))
-      ∙ ap (λ (o : Option BagId).
-      with_one earlier o (said_in known_in slot (of_slot slot (entry.Known v)))) e
-      ∙ ap (with_one earlier None) (said_self known_in slot (entry.Known v))
+      rw (
+        known-push slot rs (of_slot slot (entry.Known v)),
+        e,
+        said_self known_in slot (entry.Known v),
+      ) refl
 
   -- a Round above all others is the used one
   pub used_now : (r : ℕ) → used_of slot (rs ++ of_slot slot (entry.Round r) ∷ [])
       ≡ max (used_of slot rs) r
   used_now r =
-      used-push slot rs (of_slot slot (entry.Round r))
-      ∙ ap (with_one max (used_of slot rs)) (said_self round_in slot (entry.Round r))
+      rw (
+        used-push slot rs (of_slot slot (entry.Round r)),
+        said_self round_in slot (entry.Round r),
+      ) refl
 
   -- a ballot that is above all that was promised is promised
   above : {X : Type 0} (ballot : X → BallotNumber) (o : Option X) (x : X)
       → ((y : X) → o ≡ Some y → Below (ballot y) (ballot x)) → higher ballot o x ≡ Some x
   above ballot None x l = refl
-  above ballot (Some y) x l =
-      rw ((below_decides (ballot y) (ballot x)).1 (l y refl)) refl
+  above ballot (Some y) x l = rw ((below_decides (ballot y) (ballot x)).1 (l y refl)) refl
 
   pub promised_now : (b : BallotNumber)
       → ((a : BallotNumber) → promised_of slot rs ≡ Some a → Below a b)
       → promised_of slot (rs ++ of_slot slot (entry.Promise b) ∷ []) ≡ Some b
   promised_now b l =
-      promised-push slot rs (of_slot slot (entry.Promise b))
-      ∙ ap (with_one (higher (λ b. b)) (promised_of slot rs))
-      (said_self ballot_in slot (entry.Promise b))
-      ∙ above (λ (b : BallotNumber). b) (promised_of slot rs) b l
+      rw (
+        promised-push slot rs (of_slot slot (entry.Promise b)),
+        said_self ballot_in slot (entry.Promise b),
+      )
+      (above (λ (b : BallotNumber). b) (promised_of slot rs) b l)
 
   pub vote_now : (v : Vote) → ((u : Vote) → vote_of slot rs ≡ Some u → Below u.ballot v.ballot)
       → vote_of slot (rs ++ of_slot slot (entry.Vote v) ∷ []) ≡ Some v
   vote_now v l =
-      vote-push slot rs (of_slot slot (entry.Vote v))
-      ∙ ap (with_one (higher (λ v. v.ballot)) (vote_of slot rs))
-      (said_self vote_in slot (entry.Vote v))
-      ∙ above (λ (v : Vote). v.ballot) (vote_of slot rs) v l
+      rw (vote-push slot rs (of_slot slot (entry.Vote v)), said_self vote_in slot (entry.Vote v))
+      (above (λ (v : Vote). v.ballot) (vote_of slot rs) v l)
 
   -- a vote counts as a promise of its ballot
   pub vote_below : (b : BallotNumber)
       → ((a : BallotNumber) → promised_of slot rs ≡ Some a → Below a b)
       → (u : Vote) → vote_of slot rs ≡ Some u → Below u.ballot b
   vote_below b l u e =
-      let bound =
-      promised_bounds slot rs (entry.Vote u) u.ballot (vote_among slot rs u e) refl in
+      let bound = promised_bounds slot rs (entry.Vote u) u.ballot (vote_among slot rs u e) refl in
       below_at_most u.ballot bound.top b bound.at_least (l bound.top bound.is)
 
 -- ---- a message of the slot that was heard
@@ -234,3 +223,27 @@ pub to_each_has : (slot : SlotName) (body : Body) (sites : List ℕ) (n : ℕ) �
     → Has (to_site n slot body) (to_each slot body sites)
 unfolding to_each
 to_each_has slot body sites n h = map_has (λ (site : ℕ). to_site site slot body) h
+
+-- a ballot on top of what was promised: it, or what was
+pub promised_cases : (slot : SlotName) (rs : List Record) (b : BallotNumber) (r : Record)
+    → said_in ballot_in slot r ≡ Some b
+    → (a : BallotNumber) → promised_of slot (rs ++ r ∷ []) ≡ Some a
+    → (promised_of slot rs ≡ Some a) ⊎ (b ≡ a)
+promised_cases slot rs b r says a e =
+    go (promised_of slot rs) (rw (promised-push slot rs r, says) at e)
+  where
+    test : (c : BallotNumber) (t : Bool) → cond t (Some b) (Some c) ≡ Some a
+        → ◌≡◌ {A = Option BallotNumber} (Some c) (Some a) ⊎ (b ≡ a)
+    test c true f = inr (some_same f)
+    test c false f = inl f
+
+    go : (o : Option BallotNumber) → higher (λ (b : BallotNumber). b) o b ≡ Some a
+        → (o ≡ Some a) ⊎ (b ≡ a)
+    go None f = inr (some_same f)
+    go (Some c) f = test c (below c b) f
+
+-- a quorum that is not completed only now was one before
+pub not_completed : (t u : Bool) → (t && not u) ≡ false → t ≡ true → u ≡ true
+not_completed true true e f = refl
+not_completed true false e f = absurd (cc e)
+not_completed false u e f = absurd (cc f)

@@ -1,6 +1,6 @@
 -- Bytes that are known to be records are read without a look at their checksums.
 use Rattle.std.proofs.Common.{◌≡◌, ◌⊎◌, ℕ, ◌≤◌, ◌+◌, ◌-◌, List, [], ◌∷◌, ◌++◌, length, take, drop}
-use Rattle.std.proofs.Common.{Option, Some, None, refl, sym, ap, subst, ◌∙◌, arith, inl, inr}
+use Rattle.std.proofs.Common.{Some, None, refl, sym, ap, ◌∙◌, arith, inl, inr}
 use Rattle.std.proofs.Common.{append_assoc}
 use Rattle.std.proofs.lemmas.List.{append-nil, take_at, drop_at, drop-drop, nil_from_length}
 use Rattle.fields.proofs.Bytes.{some_is, not_some}
@@ -10,7 +10,6 @@ use Rattle.records.specs.declared.record.Record.{Record}
 use Rattle.records.specs.Layout.{checksum_size, sealed, framed, encoded, all_encoded}
 use Rattle.records.specs.Records.{IsRecord, AreRecords}
 use Rattle.records.specs.Journals.{length_field, IsNoRecord}
-use Rattle.records.specs.inner.Decoders.{content_at}
 use Rattle.records.specs.inner.Steps.{record_before, IsShort, IsSized, IsNext}
 use Rattle.records.proofs.RoundTrip.{content_again}
 use Rattle.records.proofs.Prefixes.{BeginsWithNone, none_of_nothing, none_of_torn, none_of_damage}
@@ -19,7 +18,7 @@ use Rattle.records.proofs.Walk.{from, from_is, sealed_begins, sealed_size}
 
 begins_none : (l : Layout) (x : List ℕ) → IsShort l x ⊎ IsNoRecord l x → BeginsWithNone l x
 begins_none l x (inl (inl none)) =
-    subst (BeginsWithNone l) (sym (nil_from_length x none)) (none_of_nothing l)
+    rw (nil_from_length x none) (none_of_nothing l)
 begins_none l x (inl (inr torn)) = none_of_torn l x torn
 begins_none l x (inr bad) = none_of_damage l x bad
 
@@ -31,7 +30,7 @@ before_again l r h =
     let begins = sealed_begins l u in
     let front : take n (sealed l u) ≡ u =
     ap (take n) begins.1 ∙ take_at u begins.0 n (omega (arith, sealed_size l u)) in
-    ap (λ (x : List ℕ). content_at (drop 2 x)) front ∙ content_again r h
+    rw front (content_again r h)
 
 record_length : (l : Layout) (r : Record) → length (encoded l r) ≡ 2 + size_said l r
 record_length l r = omega (arith, record_size l r [], ap length (append-nil (encoded l r)))
@@ -55,27 +54,17 @@ module _ (l : Layout) (bytes : List ℕ) (size : ℕ) (sized : IsSized l bytes (
 
   its_bytes : (r : Record) (more : List ℕ) → IsRecord r → bytes ≡ encoded l r ++ more
       → record_before l (take size bytes) ≡ Some r
-  its_bytes r more is e =
-      ap (λ (n : ℕ). record_before l (take n bytes)) (size_of r more is e)
-      ∙ ap (λ (b : List ℕ). record_before l (take (2 + size_said l r) b)) e
-      ∙ ap (record_before l) (whole_prefix l r more) ∙ before_again l r is
+  its_bytes r more is e = rw (size_of r more is e, e, whole_prefix l r more) (before_again l r is)
 
   pub whole_next : (r : Record) → record_before l (take size bytes) ≡ Some r
       → IsNext l bytes (Some (r, size))
   whole_next r read = record {
-    first = λ s more is e. by s (some_is r s (sym read ∙ its_bytes s more is e))
-        (size_of s more is e ∙ sym (record_length l s));
+    first = λ s more is e.
+        let same : r ≡ s = some_is r s (sym read ∙ its_bytes s more is e) in
+        rw (record_length l s, ← size_of s more is e, same) refl;
     none = λ e. absurd (omega (arith, ap length e, sized.2, sized.3));
-    in_range = λ n e. range n (some_is (r, size) n e);
+    in_range = λ n e. rw (← some_is (r, size) n e) (omega (arith, sized.3), sized.2);
   }
-    where
-      by : (s : Record) → r ≡ s → size ≡ length (encoded l s)
-          → ◌≡◌ {A = Option (Record × ℕ)} (Some (r, size)) (Some (s, length (encoded l s)))
-      by s same n = λ i. Some (same i, n i)
-
-      range : (n : Record × ℕ) → (r, size) ≡ n → (1 ≤ n.1) × (n.1 ≤ length bytes)
-      range n same = subst (λ (m : Record × ℕ). (1 ≤ m.1) × (m.1 ≤ length bytes)) same
-          (omega (arith, sized.3), sized.2)
 
   -- bytes that say no record begin with none
   pub unread_next : record_before l (take size bytes) ≡ None → IsNext l bytes None
@@ -122,8 +111,7 @@ module _ (l : Layout) (bytes : List ℕ) (records : List Record) (place : ℕ) (
       where
         by : (read rest : List Record) → records ≡ read ++ rest → AreRecords rest
             → drop place bytes ≡ all_encoded l rest → new ≡ old ++ read → new ≡ old ++ records
-        by read [] all are left items =
-            items ∙ ap (λ (rs : List Record). old ++ rs) (sym (all ∙ append-nil read))
+        by read [] all are left items = rw (items, all, append-nil) refl
         by read (r ∷ rest) all are left items =
             absurd (cc (next.first r (all_encoded l rest) are.0 (from_is bytes place ∙ left)))
 
@@ -147,7 +135,7 @@ module _ (l : Layout) (bytes : List ℕ) (records : List Record) (place : ℕ) (
               rest = rest;
               all = all ∙ sym (append_assoc read (s ∷ []) rest);
               are = are.1;
-              left = sym (drop-drop size place bytes) ∙ ap (drop size) left
-                  ∙ drop_at (encoded l s) (all_encoded l rest) size (sym long);
-              items = (λ i. items i ++ one i ∷ []) ∙ append_assoc old read (s ∷ []);
+              left = rw (← drop-drop size place bytes, left)
+                  (drop_at (encoded l s) (all_encoded l rest) size (sym long));
+              items = rw (items, one) (append_assoc old read (s ∷ []));
             }

@@ -1,71 +1,63 @@
 -- The parts that are found are those of a text.
 use Rattle.std.proofs.Common.{◌≡◌, ◌≢◌, ◌⊎◌, ℕ, ◌≤◌, ◌<◌, ◌+◌, Bool, true, false, List, [], ◌∷◌}
-use Rattle.std.proofs.Common.{◌++◌}
-use Rattle.std.proofs.Common.{length, take, drop, Ok, Err, refl, sym, ap, subst, ◌∙◌}
-use Rattle.std.proofs.Common.{arith, inl, inr, append_assoc, length-append}
+use Rattle.std.proofs.Common.{◌++◌, length, take, drop, Ok, Err, refl, sym, ap, ◌∙◌, arith}
+use Rattle.std.proofs.Common.{inl, inr, append_assoc, length-append}
 use Rattle.std.specs.Prelude.{Result, MatchResult, bytes_eq}
 use Rattle.std.proofs.lemmas.Slice.Eq.{bytes_eq-Decides}
 use Rattle.records.specs.declared.fault.JournalFault.{JournalFault}
 use Rattle.records.specs.declared.parts.Parts.{Parts}
 use Rattle.records.specs.inner.Found.{IsFoundPart, IsFoundParts, ArePartsOf, Allows}
-use Rattle.records.specs.inner.Parts.{IsOldPart}
+use Rattle.records.specs.inner.Parts.{IsOldPart, IsRun, IsParts, first_records, second_records}
+use Rattle.records.specs.inner.Parts.{weights_in}
 use Rattle.records.proofs.Apart.{header_size, old_header_size}
 use Rattle.std.specs.List.{All}
 use Rattle.std.proofs.lemmas.List.{append-nil, take_at, take-append-drop, length-drop, drop-drop}
-use Rattle.std.proofs.lemmas.List.{nil_from_length, length-take}
+use Rattle.std.proofs.lemmas.List.{nil_from_length, drop_more}
 use Rattle.fed_types.specs.Sites.{AreWeights}
-use Rattle.records.specs.declared.fault.JournalFault.TheVariants as faults
-use Rattle.records.specs.declared.headers.HeaderAt.TheVariants as headers
-use Rattle.records.specs.declared.journal.Passed.{Passed}
 use Rattle.records.specs.declared.layout.Layout.{Layout}
 use Rattle.records.specs.declared.layout.Layout.TheVariants.{First, Second}
 use Rattle.records.specs.declared.owner.Owner.{Owner}
 use Rattle.records.specs.declared.record.Record.{Record}
 use Rattle.records.specs.Answers.{EndsAt, SaysRecords}
-use Rattle.records.specs.Layout.{all_encoded, header_of, old_header}
+use Rattle.records.specs.Layout.{all_encoded, header_of, old_header, owner_bytes}
 use Rattle.records.specs.Records.{AreRecords}
-use Rattle.records.specs.Starts.{Start, Old, New, Carried, IsStart, layout_after}
-use Rattle.records.specs.Starts.{HasWeights, text_bytes, records_of, is_current}
-use Rattle.records.specs.Journals.{Reaches, IsEnd, HasEnd, IsHeaderPart, HasHeader}
-use Rattle.records.specs.Journals.{DecodesTo}
-use Rattle.records.specs.inner.Parts.{IsRun, IsParts, first_records, second_records, weights_in}
-use Rattle.records.specs.inner.Steps.{IsShort, Follows, Passes, IsHeaderAt, HasRead}
+use Rattle.records.specs.Starts.{Start, Old, New, Carried, IsStart, layout_after, HasWeights}
+use Rattle.records.specs.Starts.{text_bytes, records_of, is_current}
+use Rattle.records.specs.Journals.{Reaches, IsEnd, HasEnd, IsHeaderPart, HasHeader, DecodesTo}
+use Rattle.records.specs.Journals.{IsNew, NamesOwner, IsOfOwner, IsDamage, IsNoHeader}
+use Rattle.records.specs.inner.Steps.{IsShort, IsHeaderAt, HasReadBoth}
 use Rattle.records.proofs.Prefixes.{record_size}
-use Rattle.std.proofs.lemmas.List.{drop_more}
 use Rattle.records.specs.Numbers.{magic, old_magic}
-use Rattle.records.specs.Layout.{owner_bytes}
-use Rattle.records.specs.Journals.{IsNew, NamesOwner, IsOfOwner}
-use Rattle.records.proofs.Walk.{from, from_is, take_both}
+use Rattle.records.specs.declared.fault.JournalFault.TheVariants as faults
+use Rattle.records.specs.declared.headers.HeaderAt.TheVariants as headers
+use Rattle.std.proofs.Math.Seq.{take-add}
+use Rattle.records.proofs.Texts.{both_nil}
+use Rattle.records.proofs.Apart.{header_weights}
 
--- ---- runs of records
+-- ---- ends and damage
 
-pub run_of : (l : Layout) (bytes : List ℕ) (place : ℕ) (passed : Passed) → place ≤ length bytes
-    → Passes l (from bytes place) passed
-    → IsRun l bytes place (take passed.len (from bytes place)) (place + passed.len) passed.damaged
-run_of l bytes place passed le p =
-    let rest = from bytes place in
-    let behind : drop passed.len rest ≡ drop (place + passed.len) bytes =
-    ap (drop passed.len) (from_is bytes place) ∙ drop-drop passed.len place bytes in
-    let size : length rest + place ≡ length bytes =
-    omega (arith, ap length (from_is bytes place), length-drop place bytes, le) in
-    record {
-      records = p.0.0;
-      are_records = p.0.1.0;
-      run_is = p.0.1.2;
-      bytes_are = sym (from_is bytes place) ∙ sym (take-append-drop passed.len rest)
-          ∙ ap (λ (b : List ℕ). b ++ drop passed.len rest) p.0.1.2
-          ∙ ap (λ (b : List ℕ). all_encoded l p.0.0 ++ b) behind;
-      in_range = omega (arith, size, p.0.1.1);
-      end_is = omega (arith, length-take passed.len rest, p.0.1.1);
-      follows = subst (λ (b : List ℕ). Follows l b passed.damaged) behind p.1;
-    }
-
--- ---- ends
-
-short_end : (owner : Owner) (start : Start) (x : List ℕ) → IsShort (layout_after start) x
+pub short_end : (owner : Owner) (start : Start) (x : List ℕ) → IsShort (layout_after start) x
     → IsEnd owner start x
 short_end owner start x (inl none) = inl (nil_from_length x none)
 short_end owner start x (inr torn) = inr (inl torn)
+
+damaged_at : {owner : Owner} {bytes : List ℕ} {start : Start} {rs : List Record} (end : ℕ)
+    → Reaches owner bytes start rs (drop end bytes) → end ≤ length bytes
+    → IsDamage owner start (drop end bytes) → DecodesTo owner bytes (Err (faults.Damaged end))
+unfolding DecodesTo
+damaged_at {owner} {bytes} {start} {rs} end reaches le damage = inr (record {
+  start = start;
+  records = rs;
+  rest = drop end bytes;
+  reaches = reaches;
+  damage = damage;
+  place_is = omega (
+    arith,
+    ap length reaches.bytes_are,
+    length-append (text_bytes owner start rs) (drop end bytes),
+    length-drop end bytes,
+  );
+})
 
 -- ---- a header of the second layout at a place
 
@@ -75,37 +67,29 @@ pub record HeaderHere (owner : Owner) (bytes : List ℕ) (at count : ℕ) : Type
   pub said : take count (drop (at + 14) bytes) ≡ weights
   pub bytes_are : drop at bytes ≡ header_of owner weights ++ drop (at + 14 + count) bytes
 
-header_14 : (owner : Owner) (ws x : List ℕ) → drop 14 (header_of owner ws ++ x) ≡ ws ++ x
-unfolding header_of
-header_14 owner ws x = refl
-
 pub header_here : (owner : Owner) (bytes : List ℕ) (at count : ℕ)
     → IsHeaderAt owner (drop at bytes) (headers.Whole count) → HeaderHere owner bytes at count
 header_here owner bytes at count (ws, are, size, is) =
-    let sum : at + (14 + count) ≡ at + 14 + count = omega arith in
-    let behind : drop (14 + count) (drop at bytes) ≡ drop (at + 14 + count) bytes =
-    drop-drop (14 + count) at bytes ∙ ap (λ (n : ℕ). drop n bytes) sum in
+    let rest = drop (14 + count) (drop at bytes) in
+    let behind : rest ≡ drop (at + 14 + count) bytes =
+    drop-drop (14 + count) at bytes ∙ ap (λ (n : ℕ). drop n bytes) (omega arith) in
     record {
       weights = ws;
       are = are;
-      said = ap (take count) (sym (drop-drop 14 at bytes) ∙ ap (drop 14) is
-          ∙ header_14 owner ws (drop (14 + count) (drop at bytes)))
-          ∙ take_at ws (drop (14 + count) (drop at bytes)) count size;
-      bytes_are = is ∙ ap (λ (b : List ℕ). header_of owner ws ++ b) behind;
+      said = rw (← drop-drop 14 at bytes, is, header_weights) (take_at ws rest count size);
+      bytes_are = rw (← behind) is;
     }
 
 -- ---- what is reached
 
-module _ (owner : Owner) (bytes new : List ℕ) (count end : ℕ) (damaged : Bool)
+module _ {owner : Owner} {bytes new : List ℕ} {count end : ℕ} {damaged : Bool}
     (h : HeaderHere owner bytes 0 count)
     (r : IsRun Second bytes (14 + count) new end damaged) where
   new_reaches : Reaches owner bytes (New h.weights) r.records (drop end bytes)
   new_reaches = record {
     is_start = h.are;
     are_records = r.are_records;
-    bytes_are = h.bytes_are ∙ ap (λ (b : List ℕ). header_of owner h.weights ++ b) r.bytes_are
-        ∙ sym (append_assoc (header_of owner h.weights) (all_encoded Second r.records)
-        (drop end bytes));
+    bytes_are = rw (append_assoc, ← r.bytes_are) h.bytes_are;
   }
 
   pub new_parts : damaged ≡ false
@@ -115,8 +99,7 @@ module _ (owner : Owner) (bytes new : List ℕ) (count end : ℕ) (damaged : Boo
     start = New h.weights;
     records = r.records;
     reaches = new_reaches;
-    ends = short_end owner (New h.weights) (drop end bytes)
-        (subst (Follows Second (drop end bytes)) none r.follows);
+    ends = short_end owner (New h.weights) (drop end bytes) (rw none at r.follows);
     in_range = r.in_range;
     old_is = refl;
     weights_are = h.said;
@@ -124,36 +107,17 @@ module _ (owner : Owner) (bytes new : List ℕ) (count end : ℕ) (damaged : Boo
   }
 
   pub new_damage : damaged ≡ true → DecodesTo owner bytes (Err (faults.Damaged end))
-  unfolding DecodesTo
-  new_damage bad = inr (record {
-    start = New h.weights;
-    records = r.records;
-    rest = drop end bytes;
-    reaches = new_reaches;
-    damage = (subst (Follows Second (drop end bytes)) bad r.follows, tt);
-    place_is = place_of (text_bytes owner (New h.weights) r.records) end bytes
-        new_reaches.bytes_are r.in_range;
-  })
-    where
-      place_of : (text : List ℕ) (end : ℕ) (bytes : List ℕ) → bytes ≡ text ++ drop end bytes
-          → end ≤ length bytes → end ≡ length text
-      place_of text end bytes is le = omega (
-        arith,
-        ap length is,
-        length-append text (drop end bytes),
-        length-drop end bytes,
-        le,
-      )
+  new_damage bad = damaged_at end new_reaches r.in_range (rw bad at r.follows, tt)
 
-module _ (owner : Owner) (bytes old : List ℕ) (mid : ℕ) (damaged : Bool)
+module _ (owner : Owner) {bytes old : List ℕ} {mid : ℕ} {damaged : Bool}
     (front : bytes ≡ old_header owner ++ drop 13 bytes)
     (o : IsRun First bytes 13 old mid damaged) where
-  old_bytes : bytes ≡ text_bytes owner Old o.records ++ drop mid bytes
-  old_bytes = front ∙ ap (λ (b : List ℕ). old_header owner ++ b) o.bytes_are
-      ∙ sym (append_assoc (old_header owner) (all_encoded First o.records) (drop mid bytes))
-
   old_reaches : Reaches owner bytes Old o.records (drop mid bytes)
-  old_reaches = record { is_start = tt; are_records = o.are_records; bytes_are = old_bytes }
+  old_reaches = record {
+    is_start = tt;
+    are_records = o.are_records;
+    bytes_are = rw (append_assoc, ← o.bytes_are) front;
+  }
 
   old_by : IsEnd owner Old (drop mid bytes) → IsParts owner bytes old [] [] mid
   unfolding all_encoded
@@ -172,44 +136,21 @@ module _ (owner : Owner) (bytes old : List ℕ) (mid : ℕ) (damaged : Bool)
   begun_parts part = old_by (inr (inr part))
 
   pub old_parts : damaged ≡ false → IsParts owner bytes old [] [] mid
-  old_parts none = old_by (short_end owner Old (drop mid bytes)
-      (subst (Follows First (drop mid bytes)) none o.follows))
+  old_parts none = old_by (short_end owner Old (drop mid bytes) (rw none at o.follows))
 
-  pub old_damage : damaged ≡ true
-      → ¬ IsHeaderPart owner (drop mid bytes) × ¬ HasHeader owner (drop mid bytes)
+  pub old_damage : damaged ≡ true → IsNoHeader owner Old (drop mid bytes)
       → DecodesTo owner bytes (Err (faults.Damaged mid))
-  unfolding DecodesTo
-  old_damage bad other = inr (record {
-    start = Old;
-    records = o.records;
-    rest = drop mid bytes;
-    reaches = old_reaches;
-    damage = (subst (Follows First (drop mid bytes)) bad o.follows, other);
-    place_is = omega (
-      arith,
-      ap length old_bytes,
-      length-append (text_bytes owner Old o.records)
-          (drop mid bytes),
-      length-drop mid bytes,
-      o.in_range,
-    );
-  })
+  old_damage bad other = damaged_at mid old_reaches o.in_range (rw bad at o.follows, other)
 
-  module _ (new : List ℕ) (count end : ℕ) (torn : Bool) (h : HeaderHere owner bytes mid count)
+  module _ {new : List ℕ} {count end : ℕ} {torn : Bool} (h : HeaderHere owner bytes mid count)
       (r : IsRun Second bytes (mid + 14 + count) new end torn) where
     carried_reaches : Reaches owner bytes (Carried o.records h.weights) r.records (drop end bytes)
-    carried_reaches =
-        let t = text_bytes owner Old o.records in
-        record {
-          is_start = (o.are_records, h.are);
-          are_records = r.are_records;
-          bytes_are = old_bytes ∙ ap (λ (b : List ℕ). t ++ b) (h.bytes_are
-              ∙ ap (λ (b : List ℕ). header_of owner h.weights ++ b) r.bytes_are)
-              ∙ sym (append_assoc t (header_of owner h.weights)
-              (all_encoded Second r.records ++ drop end bytes))
-              ∙ sym (append_assoc (t ++ header_of owner h.weights) (all_encoded Second r.records)
-              (drop end bytes));
-        }
+    carried_reaches = record {
+      is_start = (o.are_records, h.are);
+      are_records = r.are_records;
+      bytes_are = rw (append_assoc, append_assoc, ← r.bytes_are, ← h.bytes_are)
+          old_reaches.bytes_are;
+    }
 
     pub carried_parts : torn ≡ false
         → IsParts owner bytes old (take count (drop (mid + 14) bytes)) new end
@@ -218,7 +159,7 @@ module _ (owner : Owner) (bytes old : List ℕ) (mid : ℕ) (damaged : Bool)
       records = r.records;
       reaches = carried_reaches;
       ends = short_end owner (Carried o.records h.weights) (drop end bytes)
-          (subst (Follows Second (drop end bytes)) none r.follows);
+          (rw none at r.follows);
       in_range = r.in_range;
       old_is = o.run_is;
       weights_are = h.said;
@@ -226,22 +167,7 @@ module _ (owner : Owner) (bytes old : List ℕ) (mid : ℕ) (damaged : Bool)
     }
 
     pub carried_damage : torn ≡ true → DecodesTo owner bytes (Err (faults.Damaged end))
-    unfolding DecodesTo
-    carried_damage bad = inr (record {
-      start = Carried o.records h.weights;
-      records = r.records;
-      rest = drop end bytes;
-      reaches = carried_reaches;
-      damage = (subst (Follows Second (drop end bytes)) bad r.follows, tt);
-      place_is = omega (
-        arith,
-        ap length carried_reaches.bytes_are,
-        length-append (text_bytes owner (Carried o.records h.weights) r.records)
-            (drop end bytes),
-        length-drop end bytes,
-        r.in_range,
-      );
-    })
+    carried_damage bad = damaged_at end carried_reaches r.in_range (rw bad at r.follows, tt)
 
 -- ---- records read from their bytes
 
@@ -258,50 +184,36 @@ first_are Old rs is are = (are, tt)
 first_are (New ws) rs is are = (tt, are)
 first_are (Carried os ws) rs is are = (is.0, are)
 
-module _ (owner : Owner) (bytes old weights new : List ℕ) (end : ℕ)
+module _ {owner : Owner} {bytes old weights new : List ℕ} {end : ℕ}
     (p : IsParts owner bytes old weights new end) where
-  pub all_read : (none mid all : List Record) → none ≡ [] → HasRead First old none mid
-      → HasRead Second new mid all → all ≡ records_of p.start p.records
-  all_read none mid all nil first second =
+  pub all_read : (all : List Record) → HasReadBoth old new all → all ≡ records_of p.start p.records
+  all_read all (none, mid, nil, first, second) =
       let are = first_are p.start p.records p.reaches.is_start p.reaches.are_records in
-      let f = first_records p.start p.records in
-      let s = second_records p.start p.records in
-      second s are.1 p.new_is
-      ∙ ap (λ (xs : List Record). xs ++ s) (first f are.0 p.old_is
-      ∙ ap (λ (xs : List Record). xs ++ f) nil)
-      ∙ in_order p.start p.records
+      let a = first (first_records p.start p.records) are.0 p.old_is in
+      let b = second (second_records p.start p.records) are.1 p.new_is in
+      rw (b, a, nil) (in_order p.start p.records)
 
   -- there are no records where there are no bytes of any
-  pub no_bytes : old ≡ [] → new ≡ [] → records_of p.start p.records ≡ []
+  pub no_bytes : length old ≡ 0 → length new ≡ 0 → records_of p.start p.records ≡ []
   unfolding all_encoded
   no_bytes a b =
-      sym (in_order p.start p.records)
-      ∙ (λ i. (none First (first_records p.start p.records) (sym p.old_is ∙ a)) i
-      ++ (none Second (second_records p.start p.records) (sym p.new_is ∙ b)) i)
+      let f = none First (first_records p.start p.records) (rw p.old_is at a) in
+      let s = none Second (second_records p.start p.records) (rw p.new_is at b) in
+      rw (← in_order p.start p.records, f, s)
     where
-      none : (l : Layout) (rs : List Record) → all_encoded l rs ≡ [] → rs ≡ []
+      none : (l : Layout) (rs : List Record) → length (all_encoded l rs) ≡ 0 → rs ≡ []
       none l [] e = refl
-      none l (r ∷ rs) e = absurd (omega (
-        arith,
-        ap length e,
-        record_size l r (all_encoded l rs),
-      ))
+      none l (r ∷ rs) e = absurd (omega (arith, record_size l r (all_encoded l rs)))
 
-  pub some_bytes : (old ≢ []) ⊎ (new ≢ []) → records_of p.start p.records ≢ []
+  pub some_bytes : (1 ≤ length old) ⊎ (1 ≤ length new) → records_of p.start p.records ≢ []
   unfolding all_encoded
   some_bytes h e =
-      let both = split (first_records p.start p.records) (second_records p.start p.records)
+      let both = both_nil (first_records p.start p.records) (second_records p.start p.records)
       (in_order p.start p.records ∙ e) in
-      by h both
-    where
-      split : (xs ys : List Record) → xs ++ ys ≡ [] → (xs ≡ []) × (ys ≡ [])
-      split [] ys e = (refl, e)
-      split (x ∷ xs) ys e = absurd (cc e)
-
-      by : (old ≢ []) ⊎ (new ≢ [])
-          → (first_records p.start p.records ≡ []) × (second_records p.start p.records ≡ []) → ⊥
-      by (inl some) both = some (p.old_is ∙ ap (all_encoded First) both.0)
-      by (inr some) both = some (p.new_is ∙ ap (all_encoded Second) both.1)
+      elim h [
+        | inl some ↦ omega (arith, ap length (p.old_is ∙ ap (all_encoded First) both.0))
+        | inr some ↦ omega (arith, ap length (p.new_is ∙ ap (all_encoded Second) both.1))
+      ]
 
   abbrev parts_text : HasEnd owner bytes
   parts_text = record {
@@ -346,18 +258,11 @@ pub old_whole : (owner : Owner) (bytes : List ℕ) → 13 ≤ length bytes
 unfolding old_header
 old_whole owner bytes long m (f, s) =
     let last : take 1 (drop 8 (drop 4 bytes)) ≡ owner.site ∷ [] =
-    ap (take 1) (drop-drop 8 4 bytes ∙ drop_more bytes 12 0 (omega (arith, long)))
-    ∙ ap (λ (n : ℕ). n ∷ []) s in
+    rw (drop-drop 8 4 bytes, drop_more bytes 12 0 (omega arith), s) refl in
     let behind : take 9 (drop 4 bytes) ≡ owner_bytes owner =
-    take_both (drop 4 bytes) 8 1 (omega (arith, long, length-drop 4 bytes))
-    (omega (arith, long, length-drop 4 bytes, length-drop 8 (drop 4 bytes)))
-    ∙ ap (λ (b : List ℕ). take 8 (drop 4 bytes) ++ b) last
-    ∙ ap (λ (b : List ℕ). b ++ owner.site ∷ []) f in
-    let first : take 13 bytes ≡ old_header owner =
-    take_both bytes 4 9 (omega (arith, long)) (omega (arith, long, length-drop 4 bytes))
-    ∙ ap (λ (b : List ℕ). b ++ take 9 (drop 4 bytes)) m
-    ∙ ap (λ (b : List ℕ). old_magic ++ b) behind in
-    sym (take-append-drop 13 bytes) ∙ ap (λ (b : List ℕ). b ++ drop 13 bytes) first
+    rw (take-add 8 1 (drop 4 bytes), last, f) refl in
+    let first : take 13 bytes ≡ old_header owner = rw (take-add 4 9 bytes, m, behind) refl in
+    sym (rw first at (take-append-drop {A = ℕ} 13 bytes))
 
 -- no header at all
 pub unnamed : (owner : Owner) (bytes : List ℕ) → ¬ IsNew owner bytes → ¬ NamesOwner bytes
@@ -389,47 +294,30 @@ old_checked owner bytes (Err f) long m said = said
 pub old_part : (owner : Owner) (bytes : List ℕ) → length bytes < 13
     → take (length bytes) (old_header owner) ≡ bytes → IsOldPart owner bytes
 old_part owner bytes short e =
+    let n = length bytes in
     let h = old_header owner in (
-      drop (length bytes) h,
-      λ none. omega (
-        arith,
-        short,
-        old_header_size owner,
-        length-drop (length bytes) h,
-        ap length none,
-      ),
-      ap (λ (b : List ℕ). b ++ drop (length bytes) h) (sym e) ∙ take-append-drop (length bytes) h,
+      drop n h,
+      λ none. omega (arith, short, old_header_size owner, length-drop n h, ap length none),
+      rw e at (take-append-drop {A = ℕ} n h),
     )
 
 pub part_begins : (owner : Owner) (bytes : List ℕ) → IsOldPart owner bytes
     → take (length bytes) (old_header owner) ≡ bytes
-part_begins owner bytes (rest, some, e) = ap (take (length bytes)) (sym e)
-    ∙ take_at bytes rest (length bytes) refl
-
-some_length : (xs : List ℕ) → xs ≢ [] → 1 ≤ length xs
-some_length [] some = absurd (some refl)
-some_length (x ∷ xs) some = omega arith
+part_begins owner bytes (rest, some, e) = rw (← e) (take_at bytes rest (length bytes) refl)
 
 pub part_short : (owner : Owner) (bytes : List ℕ) → IsOldPart owner bytes → length bytes < 13
-part_short owner bytes (rest, some, e) =
-    omega (
-      arith,
-      some_length rest some,
-      length-append bytes rest,
-      ap length e,
-      old_header_size owner,
-    )
+part_short owner bytes ([], some, e) = absurd (some refl)
+part_short owner bytes (r ∷ rest, some, e) =
+    omega (arith, length-append bytes (r ∷ rest), ap length e, old_header_size owner)
 
 -- what the code compares
 pub part_decided : (owner : Owner) (bytes header : List ℕ) (b : Bool) → length bytes < 13
     → header ≡ old_header owner → b ≡ bytes_eq (take (length bytes) header) bytes
     → (b ≡ true → IsOldPart owner bytes) × (IsOldPart owner bytes → b ≡ true)
 part_decided owner bytes header b short is test =
-    let begin : take (length bytes) header ≡ take (length bytes) (old_header owner) =
-    ap (take (length bytes)) is in
     let d = bytes_eq-Decides (take (length bytes) header) bytes in (
-      λ t. old_part owner bytes short (sym begin ∙ d.0 (sym test ∙ t)),
-      λ part. test ∙ d.1 (begin ∙ part_begins owner bytes part),
+      λ t. old_part owner bytes short (rw is at (d.0 (sym test ∙ t))),
+      λ part. test ∙ d.1 (rw is (part_begins owner bytes part)),
     )
 
 -- ---- what the parts after a header are
@@ -437,45 +325,22 @@ part_decided owner bytes header b short is test =
 pub first_found : (owner : Owner) (bytes : List ℕ) (count : ℕ) (result : Result Parts JournalFault)
     → IsHeaderAt owner bytes (headers.Whole count) → IsFoundPart bytes [] 0 count result
     → IsFoundParts owner bytes result
-unfolding DecodesTo
 first_found owner bytes count (Ok p) h (old, ws, run) =
-    let sum : 0 + 14 + count ≡ 14 + count = omega arith in
-    let none : 0 + 14 ≡ 14 = omega arith in
-    let here = header_here owner bytes 0 count h in
-    let parts = new_parts owner bytes p.new.now count p.end false here
-    (subst (λ (n : ℕ). IsRun Second bytes n p.new.now p.end false) sum run) refl in
-    subst (λ (x : List ℕ). IsParts owner bytes x p.weights.now p.new.now p.end) (sym old)
-    (subst (λ (x : List ℕ). IsParts owner bytes [] x p.new.now p.end)
-    (sym (ws ∙ ap (λ (n : ℕ). take count (drop n bytes)) none)) parts)
+    rw (old, ws) (new_parts (header_here owner bytes 0 count h) run refl)
 first_found owner bytes count (Err (faults.Damaged place)) h (run, r) =
-    let sum : 0 + 14 + count ≡ 14 + count = omega arith in
-    new_damage owner bytes run count place true (header_here owner bytes 0 count h)
-    (subst (λ (n : ℕ). IsRun Second bytes n run place true) sum r) refl
-first_found owner bytes count (Err faults.OtherFederation) h never = absurd never
-first_found owner bytes count (Err faults.OtherSite) h never = absurd never
-first_found owner bytes count (Err faults.OtherWeights) h never = absurd never
-first_found owner bytes count (Err faults.Memory) h never = absurd never
+    new_damage (header_here owner bytes 0 count h) r refl
+first_found owner bytes count (Err _) h never = absurd never
 
 pub next_found : (owner : Owner) (bytes old : List ℕ) (mid count : ℕ) (damaged : Bool)
     (result : Result Parts JournalFault) → bytes ≡ old_header owner ++ drop 13 bytes
     → IsRun First bytes 13 old mid damaged
     → IsHeaderAt owner (drop mid bytes) (headers.Whole count)
     → IsFoundPart bytes old mid count result → IsFoundParts owner bytes result
-unfolding DecodesTo
 next_found owner bytes old mid count damaged (Ok p) front o h (same, ws, run) =
-    let parts = carried_parts owner bytes old mid damaged front o p.new.now count p.end false
-    (header_here owner bytes mid count h) run refl in
-    subst (λ (x : List ℕ). IsParts owner bytes x p.weights.now p.new.now p.end) (sym same)
-    (subst (λ (x : List ℕ). IsParts owner bytes old x p.new.now p.end) (sym ws) parts)
+    rw (same, ws) (carried_parts owner front o (header_here owner bytes mid count h) run refl)
 next_found owner bytes old mid count damaged (Err (faults.Damaged place)) front o h (run, r) =
-    carried_damage owner bytes old mid damaged front o run count place true
-    (header_here owner bytes mid count h) r refl
-next_found owner bytes old mid count damaged (Err faults.OtherFederation) front o h never =
-    absurd never
-next_found owner bytes old mid count damaged (Err faults.OtherSite) front o h never = absurd never
-next_found owner bytes old mid count damaged (Err faults.OtherWeights) front o h never =
-    absurd never
-next_found owner bytes old mid count damaged (Err faults.Memory) front o h never = absurd never
+    carried_damage owner front o (header_here owner bytes mid count h) r refl
+next_found owner bytes old mid count damaged (Err _) front o h never = absurd never
 
 -- a whole header fits the bytes
 pub whole_fits : (owner : Owner) (bytes : List ℕ) (count : ℕ)
@@ -490,14 +355,10 @@ whole_fits owner bytes count (ws, are, size, is) =
     )
 
 -- the parts without a header of the second layout, as the code has them
-pub parts_are : (owner : Owner) (bytes old : List ℕ) (mid : ℕ) (p : Parts)
+pub parts_are : {owner : Owner} {bytes old : List ℕ} {mid : ℕ} (p : Parts)
     → IsParts owner bytes old [] [] mid → (p.old.now ≡ old) × (p.end ≡ mid)
     → (p.weights.now ≡ []) × (p.new.now ≡ []) → ArePartsOf owner bytes p
-parts_are owner bytes old mid p is a b =
-    subst (λ (x : List ℕ). IsParts owner bytes x p.weights.now p.new.now p.end) (sym a.0)
-    (subst (λ (x : List ℕ). IsParts owner bytes old x p.new.now p.end) (sym b.0)
-    (subst (λ (x : List ℕ). IsParts owner bytes old [] x p.end) (sym b.1)
-    (subst (λ (n : ℕ). IsParts owner bytes old [] [] n) (sym a.1) is)))
+parts_are p is a b = rw (a.0, b.0, b.1, a.1) is
 
 pub old_long : (owner : Owner) (bytes : List ℕ) → bytes ≡ old_header owner ++ drop 13 bytes
     → 13 ≤ length bytes
@@ -517,11 +378,6 @@ at_start owner bytes mid count le h = omega (
   length-drop mid bytes,
   whole_fits owner (drop mid bytes) count h,
 )
-
-pub found_in : (owner : Owner) (bytes : List ℕ) (fault : JournalFault)
-    → IsFoundParts owner bytes (Err fault) → DecodesTo owner bytes (Err fault)
-unfolding DecodesTo
-found_in owner bytes fault h = h
 
 pub has_of : (owner : Owner) (bytes : List ℕ) (count : ℕ)
     → IsHeaderAt owner bytes (headers.Whole count) → HasHeader owner bytes
@@ -546,27 +402,16 @@ has_by owner (Carried os ws) weights b is said none some =
     let s = some (omega (arith, ap length said, is.1.0.0)) in
     (λ t. sym said ∙ s.0 t, λ h. s.1 (said ∙ h))
 
-length_none : (xs : List ℕ) → length xs ≡ 0 → xs ≡ []
-length_none xs none = nil_from_length xs none
-
-some_of_length : (xs : List ℕ) → 1 ≤ length xs → xs ≢ []
-some_of_length xs some none = omega (arith, some, ap length none)
-
 -- what a reading of parts is
-module _ (owner : Owner) (bytes : List ℕ) (p : Parts) (is : ArePartsOf owner bytes p)
-    (none mid all : List Record) (nil : none ≡ []) (first : HasRead First p.old.now none mid)
-    (second : HasRead Second p.new.now mid all)
+module _ {owner : Owner} {bytes : List ℕ} (p : Parts) (is : ArePartsOf owner bytes p)
+    (all : List Record) (read : HasReadBoth p.old.now p.new.now all)
     (allowed : (records_of is.start is.records ≡ []) ⊎ HasWeights owner.members.weights is.start)
   where
     read_is : all ≡ records_of is.start is.records
-    read_is = all_read owner bytes p.old.now p.weights.now p.new.now p.end is none mid all nil first
-        second
+    read_is = all_read is all read
 
     pub reading_says : DecodesTo owner bytes (Ok all)
-    unfolding DecodesTo
-    reading_says = parts_say owner bytes p.old.now p.weights.now p.new.now p.end is all read_is
-        (subst (λ (rs : List Record). (rs ≡ []) ⊎ HasWeights owner.members.weights is.start)
-        (sym read_is) allowed)
+    reading_says = parts_say is all read_is (rw (← read_is) at allowed)
 
     current_of : (start : Start) → IsStart start → (current : Bool)
         → (current ≡ true → 1 ≤ length (weights_in start))
@@ -583,55 +428,34 @@ module _ (owner : Owner) (bytes : List ℕ) (p : Parts) (is : ArePartsOf owner b
         → (all ≡ []) ⊎ EndsAt owner bytes all p.end current
     reading_end current there away = elim allowed [
       | inl empty ↦ inl (read_is ∙ empty)
-      | inr has ↦ inr (parts_end owner bytes p.old.now p.weights.now p.new.now p.end is all current
-          read_is has (current_of is.start is.reaches.is_start current
-          (λ t. subst (λ (ws : List ℕ). 1 ≤ length ws) is.weights_are (there t))
-          (λ f. subst (λ (ws : List ℕ). length ws ≡ 0) is.weights_are (away f))))
+      | inr has ↦ inr (parts_end is all current read_is has
+          (current_of is.start is.reaches.is_start current (rw is.weights_are at there)
+          (rw is.weights_are at away)))
     ]
 
-pub says_some : (owner : Owner) (bytes : List ℕ) (p : Parts) (is : ArePartsOf owner bytes p)
+pub says_some : {owner : Owner} {bytes : List ℕ} (p : Parts) (is : ArePartsOf owner bytes p)
     → (records_of is.start is.records ≡ []) ⊎ HasWeights owner.members.weights is.start
     → SaysRecords owner bytes
-unfolding DecodesTo
-says_some owner bytes p is allowed = (
+says_some p is allowed = (
   records_of is.start is.records,
-  parts_say owner bytes p.old.now p.weights.now p.new.now p.end
-      is (records_of is.start is.records) refl allowed,
+  parts_say is (records_of is.start is.records) refl allowed,
 )
 
-pub says_other : (owner : Owner) (bytes : List ℕ) (p : Parts) (is : ArePartsOf owner bytes p)
-    → (records_of is.start is.records ≢ []) × ¬ HasWeights owner.members.weights is.start
-    → DecodesTo owner bytes (Err faults.OtherWeights)
-unfolding DecodesTo
-says_other owner bytes p is h = parts_refuse owner bytes p.old.now p.weights.now p.new.now p.end is
-    h.0 h.1
-
 -- without records the weights don't count
-pub allowed_none : (owner : Owner) (bytes : List ℕ) (p : Parts) (is : ArePartsOf owner bytes p)
+pub allowed_none : {owner : Owner} {bytes : List ℕ} (p : Parts) (is : ArePartsOf owner bytes p)
     → length p.old.now ≡ 0 → length p.new.now ≡ 0 → Allows owner bytes p is true
-allowed_none owner bytes p is a b = record {
-  yes = λ t. inl (no_bytes owner bytes p.old.now p.weights.now p.new.now p.end is
-      (length_none p.old.now a) (length_none p.new.now b));
-  not = λ f. absurd (cc f);
-}
+allowed_none p is a b = record { yes = λ t. inl (no_bytes is a b); not = λ f. absurd (cc f) }
 
-pub allowed_some : (owner : Owner) (bytes : List ℕ) (p : Parts) (is : ArePartsOf owner bytes p)
+pub allowed_some : {owner : Owner} {bytes : List ℕ} (p : Parts) (is : ArePartsOf owner bytes p)
     (b : Bool) → (1 ≤ length p.old.now) ⊎ (1 ≤ length p.new.now)
     → (length p.weights.now ≡ 0 → (b ≡ true → All (λ w. w ≡ 1) owner.members.weights)
     × (All (λ w. w ≡ 1) owner.members.weights → b ≡ true))
     → (1 ≤ length p.weights.now → (b ≡ true → p.weights.now ≡ owner.members.weights)
     × (p.weights.now ≡ owner.members.weights → b ≡ true))
     → Allows owner bytes p is b
-allowed_some owner bytes p is b some none has =
+allowed_some {owner} p is b some none has =
     let h = has_by owner is.start p.weights.now b is.reaches.is_start is.weights_are none has in
     record {
       yes = λ t. inr (h.0 t);
-      not = λ f. (
-        some_bytes owner bytes p.old.now p.weights.now p.new.now p.end is (by some),
-        λ w. absurd (cc (f, h.1 w)),
-      );
+      not = λ f. (some_bytes is some, λ w. absurd (cc (f, h.1 w)));
     }
-  where
-    by : (1 ≤ length p.old.now) ⊎ (1 ≤ length p.new.now) → (p.old.now ≢ []) ⊎ (p.new.now ≢ [])
-    by (inl s) = inl (some_of_length p.old.now s)
-    by (inr s) = inr (some_of_length p.new.now s)

@@ -1,29 +1,27 @@
 -- The bytes of records are prefix-free, those of both layouts together, so bytes have one list of
 -- records of a layout.
 use Rattle.std.proofs.Common.{◌≡◌, ◌≢◌, ◌⊎◌, ℕ, ◌≤◌, ◌+◌, eqb, cond, List, [], ◌∷◌, ◌++◌, length}
-use Rattle.std.proofs.Common.{take}
-use Rattle.std.proofs.Common.{drop, get_or, refl, sym, ap, subst, ◌∙◌, arith, inl, inr}
-use Rattle.std.proofs.Common.{append_assoc}
-use Rattle.std.proofs.Common.{length-append}
+use Rattle.std.proofs.Common.{take, drop, get_or, refl, sym, ap, ◌∙◌, arith, inl, inr}
+use Rattle.std.proofs.Common.{append_assoc, length-append}
 use Rattle.std.specs.Int.{w16, w32, to_be_bytes}
 use Rattle.std.proofs.lemmas.Nat.{from_be_bytes-to_be_bytes_2}
 use Rattle.std.proofs.lemmas.List.{append-nil, take_at, drop_at}
 use Rattle.fields.specs.Checksums.{checksum}
 use Rattle.fields.specs.Encoding.{slot_bytes}
 use Rattle.fields.proofs.Bytes.{some_is}
-use Rattle.fields.proofs.Checksums as checked
 use Rattle.records.specs.declared.entry.Entry.{Entry}
 use Rattle.records.specs.declared.entry.Entry.TheVariants.{Deposit, Round, Promise, Vote, Known}
 use Rattle.records.specs.declared.layout.Layout.{Layout}
 use Rattle.records.specs.declared.layout.Layout.TheVariants.{First, Second}
 use Rattle.records.specs.declared.record.Record.{Record}
-use Rattle.records.specs.Layout.{kind_code, entry_bytes, content_bytes, checksum_size}
-use Rattle.records.specs.Layout.{framed, encoded, all_encoded}
+use Rattle.records.specs.Layout.{kind_code, entry_bytes, content_bytes, checksum_size, framed}
+use Rattle.records.specs.Layout.{encoded, all_encoded}
 use Rattle.records.specs.Numbers.{shortest_entry, longest_entry, shortest_content, longest_content}
 use Rattle.records.specs.Records.{IsEntry, IsRecord, AreRecords}
 use Rattle.records.specs.Journals.{IsRecordLength, length_field, IsTornRecord, IsNoRecord}
 use Rattle.records.specs.inner.Decoders.{content_at}
 use Rattle.records.proofs.RoundTrip.{content_again}
+use Rattle.fields.proofs.Checksums as checked
 
 entry_size : (e : Entry) → IsEntry e → (shortest_entry ≤ length (entry_bytes e))
     × (length (entry_bytes e) ≤ longest_entry)
@@ -80,17 +78,15 @@ size_said l r = length (content_bytes r) + checksum_size l
 pub encoded_is : (l : Layout) (r : Record) → encoded l r ≡ to_be_bytes w16 (size_said l r)
     ++ (content_bytes r ++ end_of l r)
 unfolding encoded end_of
-encoded_is First r =
-    ap (λ (b : List ℕ). to_be_bytes w16 (size_said First r) ++ b)
-    (sym (append-nil (content_bytes r)))
+encoded_is First r = rw (append-nil (content_bytes r)) refl
 encoded_is Second r =
     append_assoc (to_be_bytes w16 (size_said Second r)) (content_bytes r)
     (checksum (framed Second r))
 
 encoded_and : (l : Layout) (r : Record) (x : List ℕ) → encoded l r ++ x
     ≡ to_be_bytes w16 (size_said l r) ++ ((content_bytes r ++ end_of l r) ++ x)
-encoded_and l r x = ap (λ (b : List ℕ). b ++ x) (encoded_is l r)
-    ∙ append_assoc (to_be_bytes w16 (size_said l r)) (content_bytes r ++ end_of l r) x
+encoded_and l r x = rw (encoded_is l r)
+    (append_assoc (to_be_bytes w16 (size_said l r)) (content_bytes r ++ end_of l r) x)
 
 two_bytes : (n : ℕ) (b : List ℕ) → n ≤ 65535 → length_field (to_be_bytes w16 n ++ b) ≡ n
 two_bytes n b le = from_be_bytes-to_be_bytes_2 n (omega (arith, le))
@@ -157,8 +153,7 @@ same_content_size l m r s x y h k e =
 same_layout : (l m : Layout) → checksum_size l ≡ checksum_size m → l ≡ m
 same_layout First First e = refl
 same_layout Second Second e = refl
-same_layout First Second e = absurd (cc e)
-same_layout Second First e = absurd (cc e)
+same_layout _ _ e = absurd (cc e)
 
 -- the bytes of records are prefix-free
 pub same_record : (l m : Layout) (r s : Record) (x y : List ℕ) → IsRecord r → IsRecord s
@@ -199,7 +194,7 @@ whole_prefix l r x = take_at (encoded l r) x (2 + size_said l r) (let s =
 pub none_of_damage : (l : Layout) (x : List ℕ) → IsNoRecord l x → BeginsWithNone l x
 none_of_damage l x (two, inl out) r y h e =
     let is : length_field x ≡ size_said l r = ap length_field e ∙ length_is l r y h in
-    out (subst (IsRecordLength l) (sym is) (said_size l r h).0)
+    out (rw is (said_size l r h).0)
 none_of_damage l x (two, inr t) r y h e =
     let is : length_field x ≡ size_said l r = ap length_field e ∙ length_is l r y h in
     t.1 r h (ap (λ (n : ℕ). take (2 + n) x) is ∙ ap (take (2 + size_said l r)) e
@@ -212,15 +207,12 @@ pub same_records : (l : Layout) (rs ss : List Record) (x y : List ℕ) → AreRe
 unfolding all_encoded
 same_records l [] [] x y h k sx sy e = (refl, e)
 same_records l [] (s ∷ ss) x y h k sx sy e =
-    absurd (sx s (all_encoded l ss ++ y) k.0 (e
-    ∙ append_assoc (encoded l s) (all_encoded l ss) y))
+    absurd (sx s (all_encoded l ss ++ y) k.0 (simp append_assoc at e))
 same_records l (r ∷ rs) [] x y h k sx sy e =
-    absurd (sy r (all_encoded l rs ++ x) h.0 (sym e
-    ∙ append_assoc (encoded l r) (all_encoded l rs) x))
+    absurd (sy r (all_encoded l rs ++ x) h.0 (simp append_assoc at (sym e)))
 same_records l (r ∷ rs) (s ∷ ss) x y h k sx sy e =
     let one = same_record l l r s (all_encoded l rs ++ x) (all_encoded l ss ++ y) h.0 k.0
-    (sym (append_assoc (encoded l r) (all_encoded l rs) x) ∙ e
-    ∙ append_assoc (encoded l s) (all_encoded l ss) y) in
+    (simp append_assoc at e) in
     let more = same_records l rs ss x y h.1 k.1 sx sy one.2 in
     ((λ i. one.1 i ∷ more.0 i), more.1)
 

@@ -1,6 +1,6 @@
 -- A record is decoded as it is encoded.
-use Rattle.std.proofs.Common.{◌≡◌, ℕ, ◌^◌, ◌<◌, ◌≤◌, false, cond, eqb, List, [], ◌∷◌, ◌++◌, length}
-use Rattle.std.proofs.Common.{Option, Some, refl, sym, ap, subst, ◌∙◌, arith, inl, inr}
+use Rattle.std.proofs.Common.{◌≡◌, ℕ, ◌^◌, ◌<◌, ◌≤◌, false, cond, eqb, List, [], ◌++◌, length}
+use Rattle.std.proofs.Common.{Option, Some, refl, sym, subst, arith, inl, inr}
 use Rattle.std.specs.Int.{w32, to_be_bytes}
 use Rattle.std.proofs.lemmas.Bool.{eqb-true}
 use Rattle.std.proofs.lemmas.Bool.Decides.{eqb_tells}
@@ -40,20 +40,16 @@ abbrev IsRead : ℕ → List ℕ → List ℕ → Entry → Type 0
 IsRead kind bytes rest e = Takes bytes (entry_bytes e) rest × (kind ≡ kind_code e) × IsEntry e
 
 -- an entry of one kind
-made : {A : Type 0} (r : List ℕ → Option (A × List ℕ)) (s : A → List ℕ) (F : A → Type 0) (kind : ℕ)
-    (con : A → Entry) → Reads r s F
+made : {A : Type 0} {r : List ℕ → Option (A × List ℕ)} {s : A → List ℕ} {F : A → Type 0}
+    (kind : ℕ) (con : A → Entry) → Reads r s F
     → ((a : A) → (kind ≡ kind_code (con a)) × (s a ≡ entry_bytes (con a)) × (F a → IsEntry (con a)))
     → (bytes : List ℕ) (e : Entry) (rest : List ℕ) → IsBytes bytes
     → meant r (λ a. Some (con a)) bytes ≡ Some (e, rest) → IsRead kind bytes rest e
-made {A = A} r s F kind con reads is bytes e rest fits h =
+made {r} {s} {F} kind con reads is bytes e rest fits h =
     let m = meant_taken r s F (λ a. Some (con a)) reads bytes e rest fits h in
     let same : con m.0 ≡ e = some_is (con m.0) e m.1 in
     let i = is m.0 in
-    subst (IsRead kind bytes rest) same (
-      subst (λ (t : List ℕ). Takes bytes t rest) i.1 m.2,
-      i.0,
-      i.2 m.3,
-    )
+    rw (← same) (rw i.1 at m.2, i.0, i.2 m.3)
 
 abbrev Decodes : ℕ → List ℕ → List ℕ → Entry → Type 0
 Decodes kind bytes rest e = entry_at kind bytes ≡ Some (e, rest)
@@ -74,20 +70,15 @@ entry_taken : (kind : ℕ) (bytes : List ℕ) (e : Entry) (rest : List ℕ) → 
 unfolding entry_at
 entry_taken kind bytes e rest fits =
     by_code deposit_code
-    (made bag_at bag_bytes IsBag deposit_code Deposit bag_read (λ a. (refl, refl, λ f. f)) bytes e
-    rest fits)
+    (made deposit_code Deposit bag_read (λ a. (refl, refl, λ f. f)) bytes e rest fits)
     (by_code round_code
-    (made round_at (to_be_bytes w32) IsRound round_code Round round_read
-    (λ a. (refl, refl, λ f. f)) bytes e rest fits)
+    (made round_code Round round_read (λ a. (refl, refl, λ f. f)) bytes e rest fits)
     (by_code promise_code
-    (made ballot_at ballot_bytes IsBallot promise_code Promise ballot_read
-    (λ a. (refl, refl, λ f. f)) bytes e rest fits)
+    (made promise_code Promise ballot_read (λ a. (refl, refl, λ f. f)) bytes e rest fits)
     (by_code vote_code
-    (made vote_at vote_bytes IsVote vote_code Vote vote_read (λ a. (refl, refl, λ f. f)) bytes e
-    rest fits)
+    (made vote_code Vote vote_read (λ a. (refl, refl, λ f. f)) bytes e rest fits)
     (by_code known_code
-    (made bag_at bag_bytes IsBag known_code Known bag_read (λ a. (refl, refl, λ f. f)) bytes e
-    rest fits)
+    (made known_code Known bag_read (λ a. (refl, refl, λ f. f)) bytes e rest fits)
     (λ h. absurd (cc h))))))
 
 entry_again : (e : Entry) (rest : List ℕ) → IsEntry e
@@ -122,19 +113,13 @@ content_taken bytes r fits e =
     let tk = byte_read.taken bytes k.0.0 k.0.1 fits k.1 in
     let ts = slot_read.taken k.0.1 s.0.0 s.0.1 tk.0.rest_fits s.1 in
     let tb = entry_taken k.0.0 s.0.1 b.0.0 b.0.1 ts.0.rest_fits b.1 in
-    let last : s.0.1 ≡ entry_bytes b.0.0 = tb.0.parts
-    ∙ ap (λ (xs : List ℕ). entry_bytes b.0.0 ++ xs) none ∙ append-nil (entry_bytes b.0.0) in
-    let middle : k.0.1 ≡ slot_bytes s.0.0 ++ entry_bytes b.0.0 = ts.0.parts
-    ∙ ap (λ (xs : List ℕ). slot_bytes s.0.0 ++ xs) last in
-    let whole : bytes ≡ content_bytes made = tk.0.parts ∙ ap (λ (xs : List ℕ). k.0.0 ∷ xs) middle
-    ∙ ap (λ (n : ℕ). n ∷ (slot_bytes s.0.0 ++ entry_bytes b.0.0)) tb.1 in
-    subst (λ (r : Record). (bytes ≡ content_bytes r) × IsRecord r) (some_is made r g.1)
-    (whole, (ts.1, tb.2))
+    let last : s.0.1 ≡ entry_bytes b.0.0 = rw (none, append-nil) at tb.0.parts in
+    let middle : k.0.1 ≡ slot_bytes s.0.0 ++ entry_bytes b.0.0 = rw last at ts.0.parts in
+    let whole : bytes ≡ content_bytes made = cc (tk.0.parts, middle, tb.1) in
+    rw (← some_is made r g.1) (whole, (ts.1, tb.2))
 
 pub content_again : (r : Record) → IsRecord r → content_at (content_bytes r) ≡ Some r
 unfolding content_at
 content_again r h =
-    let b : entry_at (kind_code r.body) (entry_bytes r.body) ≡ Some (r.body, []) =
-    ap (entry_at (kind_code r.body)) (sym (append-nil (entry_bytes r.body)))
-    ∙ entry_again r.body [] h.1 in
+    let b = rw append-nil at (entry_again r.body [] h.1) in
     rw (slot_read.again r.slot (entry_bytes r.body) h.0, b) refl

@@ -1,5 +1,5 @@
 -- What one more record makes of each word.
-use Rattle.std.proofs.Common.{◌≡◌, max, List, [], ◌∷◌, ◌++◌, Option, Some, None, refl, sym, ap, ◌∙◌}
+use Rattle.std.proofs.Common.{◌≡◌, max, List, [], ◌∷◌, ◌++◌, Option, Some, None, refl, sym}
 use Rattle.std.specs.Prelude.{fold, filter_map}
 use Rattle.std.specs.List.{cons_option}
 use Rattle.fed_types.specs.Slots.{SlotName}
@@ -30,11 +30,10 @@ module _ {A X : Type 0} (step : A → X → A) where
       (a : A) → fold step a (all_said kind slot (rs ++ r ∷ []))
       ≡ with_one step (fold step a (all_said kind slot rs)) (said_in kind slot r)
   fold-push kind slot [] r a = said_cons kind (entry_of slot r) [] a
-  fold-push kind slot (s ∷ rs) r a =
-      said_cons kind (entry_of slot s) (entries slot (rs ++ r ∷ [])) a
-      ∙ fold-push kind slot rs r (with_one step a (said_in kind slot s))
-      ∙ ap (λ (b : A). with_one step b (said_in kind slot r))
-      (sym (said_cons kind (entry_of slot s) (entries slot rs) a))
+  fold-push kind slot (s ∷ rs) r a = rw (
+    said_cons kind (entry_of slot s) (entries slot (rs ++ r ∷ [])) a,
+    said_cons kind (entry_of slot s) (entries slot rs) a,
+  ) (fold-push kind slot rs r (with_one step a (said_in kind slot s)))
 
 -- the first of a list is what the first of two gives, from the left
 keeps_first : {X : Type 0} (x : X) (xs : List X) → fold earlier (Some x) xs ≡ Some x
@@ -48,10 +47,9 @@ first_is (x ∷ xs) = sym (keeps_first x xs)
 first-push : {X : Type 0} (kind : Entry → Option X) (slot : SlotName) (rs : List Record)
     (r : Record) → first (all_said kind slot (rs ++ r ∷ []))
     ≡ with_one earlier (first (all_said kind slot rs)) (said_in kind slot r)
-first-push {X = X} kind slot rs r =
-    first_is (all_said kind slot (rs ++ r ∷ [])) ∙ fold-push earlier kind slot rs r None
-    ∙ ap (λ (o : Option X). with_one earlier o (said_in kind slot r))
-    (sym (first_is (all_said kind slot rs)))
+first-push kind slot rs r =
+    rw (first_is (all_said kind slot (rs ++ r ∷ [])), first_is (all_said kind slot rs))
+    (fold-push earlier kind slot rs r None)
 
 pub promised-push : (slot : SlotName) (rs : List Record) (r : Record)
     → promised_of slot (rs ++ r ∷ [])

@@ -1,22 +1,19 @@
 -- The records are read one after another.
-use Rattle.std.proofs.Common.{◌≡◌, ℕ, zero, suc, ◌≤◌, ◌+◌, ◌-◌, ◌*◌, List, [], ◌∷◌, ◌++◌, length}
-use Rattle.std.proofs.Common.{take, drop, get_or, Option, Some, None, refl, sym, ap, subst, ◌∙◌}
-use Rattle.std.proofs.Common.{arith, inr, append_assoc, length-append}
+use Rattle.std.proofs.Common.{◌≡◌, ℕ, zero, suc, ◌≤◌, ◌+◌, ◌-◌, List, [], ◌∷◌, ◌++◌, length}
+use Rattle.std.proofs.Common.{take, drop, Option, Some, None, refl, sym, ap, subst, ◌∙◌}
+use Rattle.std.proofs.Common.{arith, inr, length-append}
 use Rattle.std.specs.Prelude.{IsSome}
 use Rattle.std.specs.Int.{w16, to_be_bytes, from_be_bytes}
-use Rattle.std.proofs.lemmas.List.{append-nil, take_at, take-append-drop, length-drop, length-take}
+use Rattle.std.proofs.lemmas.List.{append-nil, take-append-drop, length-drop, length-take}
 use Rattle.std.proofs.lemmas.List.{take-append-le}
 use Rattle.std.proofs.lemmas.Nat.{be_bytes_2}
-use Rattle.std.proofs.Math.Seq.{take-length}
+use Rattle.std.proofs.Math.Seq.{take-length, take-add}
 use Rattle.fields.specs.Checksums.{checksum}
 use Rattle.fields.proofs.Bytes.{IsBytes, IsBytes-prefix, IsBytes-rest, bind_some, some_is, not_some}
-use Rattle.fields.proofs.Checksums.{without_again, without_taken, checksum_size as sum_size}
 use Rattle.records.specs.declared.layout.Layout.{Layout}
 use Rattle.records.specs.declared.layout.Layout.TheVariants.{First, Second}
 use Rattle.records.specs.declared.record.Record.{Record}
-use Rattle.records.specs.declared.journal.Find.TheVariants as finds
-use Rattle.records.specs.Layout.{content_bytes, checksum_size, sealed, framed, encoded}
-use Rattle.records.specs.Layout.{all_encoded}
+use Rattle.records.specs.Layout.{content_bytes, checksum_size, sealed, framed, encoded, all_encoded}
 use Rattle.records.specs.Records.{IsRecord}
 use Rattle.records.specs.Journals.{length_field, IsNoRecord}
 use Rattle.records.specs.inner.Decoders.{content_at}
@@ -24,21 +21,15 @@ use Rattle.records.specs.inner.Steps.{unsealed, record_in, IsWhole, IsSized, IsP
 use Rattle.records.proofs.RoundTrip.{content_taken, content_again}
 use Rattle.records.proofs.Prefixes.{record_size, content_size}
 use Rattle.records.proofs.Texts.{records-push, whole-push}
+use Rattle.fields.proofs.Checksums.{without_again, without_taken, checksum_size as sum_size}
+use Rattle.records.specs.declared.journal.Find.TheVariants as finds
 
 -- the bytes from a place on
 abbrev pub from : List ℕ → ℕ → List ℕ
 from bytes place = take (length bytes - place) (drop place bytes)
 
 pub from_is : (bytes : List ℕ) (place : ℕ) → from bytes place ≡ drop place bytes
-from_is bytes place = ap (λ (n : ℕ). take n (drop place bytes)) (sym (length-drop place bytes))
-    ∙ take-length (drop place bytes)
-
--- as the code reads the length
-pub field_of : (bytes : List ℕ) → 2 ≤ length bytes → get_or bytes 0 0 * 256 + get_or bytes 1 0
-    ≡ length_field bytes
-field_of [] two = absurd (omega (arith, two))
-field_of (a ∷ []) two = absurd (omega (arith, two))
-field_of (a ∷ b ∷ rest) two = refl
+from_is bytes place = rw (← length-drop place bytes) (take-length (drop place bytes))
 
 -- ---- a whole record is read as it is written
 
@@ -164,26 +155,6 @@ whole_least l bytes r size (is, fits, e) =
       (content_size r is).0,
     )
 
-pub take_both : (bytes : List ℕ) (m n : ℕ) → m ≤ length bytes → n ≤ length (drop m bytes)
-    → take (m + n) bytes ≡ take m bytes ++ take n (drop m bytes)
-take_both bytes m n fits more =
-    let a = take m bytes in
-    let b = take n (drop m bytes) in
-    let parts : bytes ≡ (a ++ b) ++ drop n (drop m bytes) =
-    sym (take-append-drop m bytes)
-    ∙ ap (λ (x : List ℕ). a ++ x) (sym (take-append-drop n (drop m bytes)))
-    ∙ sym (append_assoc a b (drop n (drop m bytes))) in
-    let size : length (a ++ b) ≡ m + n =
-    omega (
-      arith,
-      length-append a b,
-      length-take m bytes,
-      length-take n (drop m bytes),
-      fits,
-      more,
-    ) in
-    ap (take (m + n)) parts ∙ take_at (a ++ b) (drop n (drop m bytes)) (m + n) size
-
 pub passed_none : (l : Layout) (bytes : List ℕ) → IsPassed l bytes [] 0
 unfolding all_encoded
 passed_none l bytes = (tt, omega arith, refl)
@@ -192,11 +163,8 @@ pub passed_next : (l : Layout) (bytes : List ℕ) (rs : List Record) (len size :
     → IsPassed l bytes rs len → IsWhole l (from bytes len) r size
     → IsPassed l bytes (rs ++ r ∷ []) (len + size)
 passed_next l bytes rs len size r p w =
-    let whole : IsWhole l (drop len bytes) r size =
-    subst (λ (b : List ℕ). IsWhole l b r size) (from_is bytes len) w in (
+    let whole : IsWhole l (drop len bytes) r size = rw (← from_is bytes len) w in (
       whole-push rs r p.0 whole.0,
       omega (arith, whole.1, length-drop len bytes, p.1),
-      take_both bytes len size p.1 whole.1
-          ∙ ap (λ (b : List ℕ). b ++ take size (drop len bytes)) p.2
-          ∙ ap (λ (b : List ℕ). all_encoded l rs ++ b) whole.2 ∙ sym (records-push l rs r),
+      rw (take-add len size bytes, p.2, whole.2, records-push l rs r),
     )

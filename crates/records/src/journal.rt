@@ -120,7 +120,7 @@ fn next_record(
 }
 
 // Reads bytes that are records of the layout, after those that were read before.
-fn read_records(
+pub(crate) fn read_records(
     alloc: Global,
     layout: Layout,
     bytes: &[u8],

@@ -24,7 +24,8 @@ abbrev AreAmong : List Post → List Post → Type 0
 AreAmong some all = (post : Post) → Has post some → Has post all
 
 -- what may come where these were handed out may come where more were
-more_may_come : (members : Membership) (some all : List Post) → AreAmong some all → (o : Option Taken)
+more_may_come : (members : Membership) (some all : List Post) → AreAmong some all
+    → (o : Option Taken)
     → IfSome o (MayCome members some) → IfSome o (MayCome members all)
 more_may_come members some all among None may = tt
 more_may_come members some all among (Some Nothing) may = tt

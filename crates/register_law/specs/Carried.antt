@@ -1,6 +1,6 @@
--- Histories that go on from the cells of an earlier run, of any program that kept these rules: a run
--- of a network, since cells say nothing of the program. Where it has no events they begin with new
--- cells.
+-- Histories that go on from the cells of an earlier run, of any program that kept these rules: a
+-- run of a network, since cells say nothing of the program. Where it has no events they begin with
+-- new cells.
 use Rattle.std.specs.Prelude.{◌≡◌, ◌⊎◌, ℕ, List, [], ◌∷◌, ◌++◌, map, Ok}
 use Rattle.fed_types.specs.declared.bag_id.BagId.{BagId}
 use Rattle.fed_types.specs.Quorums.{QuorumSystem, quorums_of}

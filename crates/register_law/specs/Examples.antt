@@ -1,5 +1,5 @@
--- What makes the premises of the laws true: there is a valid bag, and a request to deposit it; and a
--- history, computed, in which the register of a slot is open at first, and then decided for the
+-- What makes the premises of the laws true: there is a valid bag, and a request to deposit it; and
+-- a history, computed, in which the register of a slot is open at first, and then decided for the
 -- bag, which is reported.
 use Rattle.std.specs.Prelude.{[], ◌∷◌, ◌++◌, List}
 use Rattle.fed_types.specs.declared.bag_id.BagId.{BagId}

@@ -1,6 +1,6 @@
--- A history that goes on from the cells of a run in which a register was decided: for a bag that was
--- deposited in the run, and of which site 1 said there that it is known. In the history the bag is
--- reported. And records of these cells show that it is chosen.
+-- A history that goes on from the cells of a run in which a register was decided: for a bag that
+-- was deposited in the run, and of which site 1 said there that it is known. In the history the bag
+-- is reported. And records of these cells show that it is chosen.
 use Rattle.std.specs.Prelude.{List}
 use Rattle.fed_types.specs.declared.bag_id.BagId.{BagId}
 use Rattle.fed_types.specs.Lists.{Has}

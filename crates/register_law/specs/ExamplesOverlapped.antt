@@ -1,5 +1,5 @@
--- Two turns that overlap: while site 1 hands out three datagrams, the second of them comes to site 2,
--- which takes a whole turn, and has handed out its reply before site 1 has handed out the third.
+-- Two turns that overlap: while site 1 hands out three datagrams, the second of them comes to site
+-- 2, which takes a whole turn, and has handed out its reply before site 1 has handed out the third.
 use Rattle.std.specs.Prelude.{◌≡◌, ℕ, List, [], ◌∷◌, ◌++◌}
 use Rattle.fed_types.specs.declared.bag_id.BagId.{BagId}
 use Rattle.udp_site.specs.Traffic.{Post, From}

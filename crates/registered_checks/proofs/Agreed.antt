@@ -47,7 +47,8 @@ not_complete_check : (bag : BagId) (found : Result BagId BagFault)
 not_complete_check bag (Ok it) is = cc is
 not_complete_check bag (Err fault) is = cc is
 
-not_complete : (bag : BagId) (read : Result TreeFacts TreeFault) → ¬ (Complete bag ≡ verdict_of read)
+not_complete : (bag : BagId) (read : Result TreeFacts TreeFault) → ¬
+    (Complete bag ≡ verdict_of read)
 not_complete bag (Ok facts) is = not_complete_check bag (check_of facts) is
 not_complete bag (Err fault) is = cc is
 
@@ -131,7 +132,8 @@ module _ (detail : Detail) (gives : Given) (place : Option (List ℕ)) where
     one_says Explained read (verdict, at, is, is_at, e) = e
 
     -- what holds of whatever is written holds
-    says : (paths : List (List ℕ)) → ReportsOn (validity detail) gives place paths (λ outcome. E) → E
+    says : (paths : List (List ℕ)) → ReportsOn (validity detail) gives place paths (λ outcome. E)
+        → E
     says [] (outcomes, are, e) = e
     says (path ∷ []) (inl tells) = one_says detail (gives path) tells
     says (path ∷ []) (inr e) = e

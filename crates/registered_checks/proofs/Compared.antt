@@ -13,7 +13,8 @@ use Rattle.bag_tree.specs.Facts.{TreeFacts}
 use Rattle.std.proofs.Common.{Result}
 use Rattle.folder_checks.specs.declared.report.Detail.{Detail}
 use Rattle.folder_checks.specs.declared.report.Detail.TheVariants.{Brief, Explained}
-use Rattle.folder_checks.specs.Reports.{validity, TellsFor, ReportsFor, ReportsAll, ReportsOn, all_of}
+use Rattle.folder_checks.specs.Reports.{validity, TellsFor, ReportsFor, ReportsAll, ReportsOn}
+use Rattle.folder_checks.specs.Reports.{all_of}
 use Rattle.known_bags.specs.declared.known_bag.KnownBag.{KnownBag}
 use Rattle.registered_checks.specs.Held.{Given, Held, held_of}
 use Rattle.registered_checks.specs.Checks.{status_of, not_compared, ComparesFor, ComparesOn}
@@ -35,11 +36,13 @@ module _ (detail : Detail) (P Q : Outcome → Type 0) (so : (alone : Outcome) �
     reported read place (inr p) = inr (so no_memory p)
 
     all_reported : (gives : Given) (place : Option (List ℕ)) (paths : List (List ℕ))
-        → ReportsAll (validity detail) gives place paths P → ReportsAll (validity detail) gives place paths Q
+        → ReportsAll (validity detail) gives place paths P → ReportsAll (validity detail) gives
+        place paths Q
     all_reported gives place paths (outcomes, are, p) = (outcomes, are, so (all_of outcomes) p)
 
     pub reported_on : (gives : Given) (place : Option (List ℕ)) (paths : List (List ℕ))
-        → ReportsOn (validity detail) gives place paths P → ReportsOn (validity detail) gives place paths Q
+        → ReportsOn (validity detail) gives place paths P → ReportsOn (validity detail) gives place
+        paths Q
     reported_on gives place [] all = all_reported gives place [] all
     reported_on gives place (path ∷ []) one = reported (gives path) place one
     reported_on gives place (path ∷ next ∷ paths) all =
@@ -77,7 +80,8 @@ module _ (detail : Detail) (place : Option (List ℕ)) (paths : List (List ℕ))
   -- a check ended, and its bags were compared, or memory ran out
   pub compared_on : (known : List KnownBag) (before after : Option Given)
       (comparison : Option ProgramOutput) (answer : ProgramOutput) → after ≡ before
-      → IfSome before (λ gives. ReportsOn (validity detail) gives place paths (Writes old mid status))
+      → IfSome before (λ gives. ReportsOn (validity detail) gives place paths
+      (Writes old mid status))
       → IfSome comparison (λ it. ForSome after (λ gives.
       IsComparison (held_of gives paths) known status it))
       → IsOrMemory comparison mid new answer
@@ -108,7 +112,8 @@ module _ (detail : Detail) (place : Option (List ℕ)) (paths : List (List ℕ))
   )
 
   pub stopped_on : (before : Option Given) (n : ℕ) → Appends mid new (take n no_memory.text)
-      → IfSome before (λ gives. ReportsOn (validity detail) gives place paths (Writes old mid status))
+      → IfSome before (λ gives. ReportsOn (validity detail) gives place paths
+      (Writes old mid status))
       → IfSome before (λ gives.
       ComparesFirst detail gives place paths (WritesPrefix old new))
   stopped_on None n part reports = tt

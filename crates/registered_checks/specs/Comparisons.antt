@@ -3,8 +3,8 @@ use Rattle.std.specs.Prelude.{ℕ, Bool, ◌&&◌, if◌then◌else◌, List, []
 use Rattle.std.specs.List.{flat_map, list_all, list_any}
 use Rattle.fed_types.specs.Bags.{same_bag}
 use Rattle.fed_types.specs.Slots.{SlotName}
-use Rattle.words.specs.Escapes.{escaped_text}
-use Rattle.words.specs.Written.{slot_text}
+use Rattle.tokens.specs.Escapes.{escaped_text}
+use Rattle.tokens.specs.Written.{slot_text}
 use Rattle.known_bags.specs.declared.known_bag.KnownBag.{KnownBag}
 use Rattle.registered_checks.specs.Held.{Held}
 

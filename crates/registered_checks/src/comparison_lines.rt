@@ -2,7 +2,7 @@
 
 ghost use Rattle.std.specs.Prelude.{◌≡◌, IfOk, string_bytes};
 ghost use Rattle.std.specs.List.{flat_map};
-ghost use Rattle.words.specs.Pushes.{Pushes};
+ghost use Rattle.tokens.specs.Pushes.{Pushes};
 ghost use Rattle.registered_checks.specs.Comparisons.{slot_line, version_line, unknown_line};
 ghost use Rattle.registered_checks.specs.Comparisons.{held_lines, missing_line, comparison_text};
 
@@ -11,7 +11,7 @@ use crate::held_bag::HeldBag;
 use fed_types::Slot;
 use known_bags::KnownBag;
 use std::alloc::{AllocError, Global};
-use words::{push_escaped, push_slot};
+use tokens::{push_escaped, push_slot};
 
 /// For each bag that is held: a line for each version whose known bag it is, or a line that it is
 /// no known bag. And a line for each version whose known bag isn't held.

@@ -1,6 +1,6 @@
-//! A run as one page of HTML, for `run --draw FILE.html`: a reader steps through its events, and sees
-//! what each site has on record and which datagrams are under way. The page asks for nothing else,
-//! and needs no network.
+//! A run as one page of HTML, for `run --draw FILE.html`: a reader steps through its events, and
+//! sees what each site has on record and which datagrams are under way. The page asks for nothing
+//! else, and needs no network.
 //!
 //! ```
 //! if path.ends_with(".html") {

@@ -5,7 +5,7 @@ use crate::table_events::push_events;
 use lines::Options;
 use run_story::{Datagram, Scene, Story};
 use std::alloc::{AllocError, Global};
-use words::push_escaped;
+use tokens::push_escaped;
 
 /// Appends the run: its members, versions, datagrams and events, each of which has a row in the
 /// picture.

@@ -109,8 +109,8 @@ impl Layout {
         Ok(())
     }
 
-    // Leaves this much room beside a datagram that breaks off: to the right of the last column there
-    // may be one that its site has sent to itself.
+    // Leaves this much room beside a datagram that breaks off: to the right of the last column
+    // there may be one that its site has sent to itself.
     fn allow_stub(&mut self, story: &Story, datagram: &Datagram, room: usize) {
         match side_to(datagram.from, datagram.to) {
             Side::Right if datagram.from == story.members.count() => {

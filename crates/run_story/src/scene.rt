@@ -19,7 +19,7 @@ use lines::Line;
 use records::Entry;
 use schedule::Fate;
 use std::alloc::AllocError;
-use words::{push_escaped, push_slot};
+use tokens::{push_escaped, push_slot};
 
 /// What the blanks of a sentence are about.
 #[derive(Clone, Copy)]

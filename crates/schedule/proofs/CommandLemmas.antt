@@ -1,6 +1,5 @@
 -- The words that the grammar has for a command are those that are read as the command.
-use Rattle.std.proofs.Common.{◌≡◌, ℕ, List, [], ◌∷◌, ◌++◌, Option, Some, None, refl, subst}
-use Rattle.std.proofs.Common.{cond}
+use Rattle.std.proofs.Common.{◌≡◌, ℕ, List, [], ◌∷◌, ◌++◌, Option, Some, None, refl, subst, cond}
 use Rattle.std.specs.Prelude.{codes}
 use Rattle.std.specs.Option.{option_map}
 use Rattle.std.specs.Str.{bytes_eq}
@@ -12,21 +11,22 @@ use Rattle.schedule.specs.declared.call.Call.TheVariants.{Deposit, Propose, Reco
 use Rattle.schedule.specs.declared.command.Command.{Command}
 use Rattle.schedule.specs.declared.command.Command.TheVariants as commands
 use Rattle.schedule.specs.declared.fate.Fate.{Fate}
-use Rattle.words.specs.Slots.{slot_of}
-use Rattle.schedule.specs.Commands.{site_of, tree_of, amount_of, call_command}
-use Rattle.schedule.specs.Commands.{only, file_command, deposit_command, propose_command}
-use Rattle.schedule.specs.Commands.{recover_command, deliver_command, ask_command}
-use Rattle.schedule.specs.Commands.{query_command, raw_command, command_of}
+use Rattle.tokens.specs.Slots.{slot_of}
+use Rattle.schedule.specs.Commands.{site_of, tree_of, amount_of, call_command, only, file_command}
+use Rattle.schedule.specs.Commands.{deposit_command, propose_command, recover_command}
+use Rattle.schedule.specs.Commands.{deliver_command, ask_command, query_command, raw_command}
+use Rattle.schedule.specs.Commands.{command_of}
 use Rattle.schedule.specs.Limits.{greatest_site, greatest_tree}
-use Rattle.schedule.specs.Lines.{site_token, tree_token, slot_tokens, call_tokens}
-use Rattle.schedule.specs.Lines.{fate_tokens, command_tokens}
+use Rattle.schedule.specs.Lines.{site_token, tree_token, slot_tokens, call_tokens, fate_tokens}
+use Rattle.schedule.specs.Lines.{command_tokens}
 use Rattle.schedule.specs.Tokens.{Token, Number, Object, IsWordFor, AreWordsFor}
-use Rattle.words.proofs.GrammarLemmas.{number_in-from, IsNumeral-number_in}
+use Rattle.tokens.proofs.GrammarLemmas.{number_in-from, IsNumeral-number_in}
 use Rattle.schedule.proofs.FateLemmas.{amount-from, amount-says, fate_of-from, fate_of-says}
-use Rattle.words.proofs.StepLemmas.{bind_some}
+use Rattle.tokens.proofs.StepLemmas.{bind_some}
 use Rattle.schedule.proofs.TokenLemmas.{text_of-from, IsTextFor-text_of, object_of-from}
 use Rattle.schedule.proofs.TokenLemmas.{IsObject-object_of, bytes_of-from, IsHexFor-bytes_of}
 use Rattle.schedule.proofs.TokenLemmas.{mapped, same_words, by_keyword, of_each, of_each_and}
+use Rattle.schedule.proofs.TokenLemmas.{OfEach, OfEachAnd}
 
 -- ---- from the grammar
 
@@ -41,106 +41,76 @@ slot-from : (object version : List ℕ) (slot : SlotName) → IsWordFor object (
     → slot_of object version ≡ Some slot
 unfolding slot_of
 slot-from object version slot name number =
-    rw (
-      object_of-from object slot.object name,
-      number_in-from 1 greatest_version version slot.version number,
-    ) refl
+    let v = number_in-from 1 greatest_version version slot.version number in
+    rw (object_of-from object slot.object name, v)
 
 -- a call and its fate
 call-from : (call : Call) (fate : Fate) (words : List (List ℕ))
     → AreWordsFor words (fate_tokens fate)
     → call_command call words ≡ Some (commands.Call call fate)
 unfolding call_command
-call-from call fate words are = rw (fate_of-from words fate are) refl
+call-from call fate words are = rw (fate_of-from words fate are)
 
 -- the fact that the words are read as the command
 abbrev IsRead : Command → List (List ℕ) → Type 0
 IsRead command words = command_of words ≡ Some command
 
-call_of-from : (call : Call) (fate : Fate) (words : List (List ℕ))
-    → AreWordsFor words (call_tokens call ++ fate_tokens fate)
-    → IsRead (commands.Call call fate) words
+each_of-call : (call : Call) (fate : Fate)
+    → OfEachAnd (call_tokens call) (fate_tokens fate) (IsRead (commands.Call call fate))
 unfolding command_of deposit_command propose_command recover_command deliver_command ask_command
-call_of-from (Deposit s t slot) fate words are =
-    of_each_and (call_tokens (Deposit s t slot)) (fate_tokens fate)
-    (IsRead (commands.Call (Deposit s t slot) fate))
-    (λ name is site s_is tree t_is object o_is version v_is rest rest_are.
-    rw (
-      is,
-      site-from site s s_is,
-      tree-from tree t t_is,
-      slot-from object version slot o_is v_is,
-    ) (call-from (Deposit s t slot) fate rest rest_are))
-    words are
-call_of-from (Propose s slot) fate words are =
-    of_each_and (call_tokens (Propose s slot)) (fate_tokens fate)
-    (IsRead (commands.Call (Propose s slot) fate))
-    (λ name is site s_is object o_is version v_is rest rest_are.
+each_of-call (Deposit s t slot) fate =
+    λ name is site s_is tree t_is object o_is version v_is rest rest_are.
+    rw (is, site-from site s s_is, tree-from tree t t_is)
+    (rw (slot-from object version slot o_is v_is)
+    (call-from (Deposit s t slot) fate rest rest_are))
+each_of-call (Propose s slot) fate =
+    λ name is site s_is object o_is version v_is rest rest_are.
     rw (is, site-from site s s_is, slot-from object version slot o_is v_is)
-    (call-from (Propose s slot) fate rest rest_are))
-    words are
-call_of-from (Recover s slot) fate words are =
-    of_each_and (call_tokens (Recover s slot)) (fate_tokens fate)
-    (IsRead (commands.Call (Recover s slot) fate))
-    (λ name is site s_is object o_is version v_is rest rest_are.
+    (call-from (Propose s slot) fate rest rest_are)
+each_of-call (Recover s slot) fate =
+    λ name is site s_is object o_is version v_is rest rest_are.
     rw (is, site-from site s s_is, slot-from object version slot o_is v_is)
-    (call-from (Recover s slot) fate rest rest_are))
-    words are
-call_of-from (Deliver k) fate words are =
-    of_each_and (call_tokens (Deliver k)) (fate_tokens fate)
-    (IsRead (commands.Call (Deliver k) fate))
-    (λ name is datagram k_is rest rest_are.
-    rw (is, amount-from datagram k k_is) (call-from (Deliver k) fate rest rest_are))
-    words are
-call_of-from (Ask s to slot) fate words are =
-    of_each_and (call_tokens (Ask s to slot)) (fate_tokens fate)
-    (IsRead (commands.Call (Ask s to slot) fate))
-    (λ name is site s_is other to_is object o_is version v_is rest rest_are.
-    rw (
-      is,
-      site-from site s s_is,
-      site-from other to to_is,
-      slot-from object version slot o_is v_is,
-    ) (call-from (Ask s to slot) fate rest rest_are))
-    words are
+    (call-from (Recover s slot) fate rest rest_are)
+each_of-call (Deliver k) fate =
+    λ name is datagram k_is rest rest_are.
+    rw (is, amount-from datagram k k_is) (call-from (Deliver k) fate rest rest_are)
+each_of-call (Ask s to slot) fate =
+    λ name is site s_is other to_is object o_is version v_is rest rest_are.
+    rw (is, site-from site s s_is, site-from other to to_is)
+    (rw (slot-from object version slot o_is v_is) (call-from (Ask s to slot) fate rest rest_are))
+
+from_each : (command : Command) → OfEach (command_tokens command) (IsRead command)
+    → (words : List (List ℕ)) → AreWordsFor words (command_tokens command)
+    → IsRead command words
+from_each command read words are =
+    of_each (command_tokens command) (IsRead command) read words are
 
 pub command_of-from : (words : List (List ℕ)) (command : Command)
     → AreWordsFor words (command_tokens command) → command_of words ≡ Some command
 unfolding command_of only file_command query_command raw_command
 command_of-from words (commands.Tree t) are =
-    of_each (command_tokens (commands.Tree t)) (IsRead (commands.Tree t))
-    (λ name is tree t_is. rw (is, tree-from tree t t_is) refl) words are
+    from_each (commands.Tree t) (λ name is tree t_is. rw (is, tree-from tree t t_is)) words are
 command_of-from words (commands.Folder t) are =
-    of_each (command_tokens (commands.Folder t)) (IsRead (commands.Folder t))
-    (λ name is tree t_is. rw (is, tree-from tree t t_is) refl) words are
+    from_each (commands.Folder t) (λ name is tree t_is. rw (is, tree-from tree t t_is)) words are
 command_of-from words (commands.File t path content) are =
-    of_each (command_tokens (commands.File t path content))
-    (IsRead (commands.File t path content))
-    (λ name is tree t_is text p_is hex c_is.
-    rw (
-      is,
-      tree-from tree t t_is,
-      text_of-from text path p_is,
-      bytes_of-from hex content c_is,
-    ) refl) words are
-command_of-from words (commands.Call call fate) are = call_of-from call fate words are
+    from_each (commands.File t path content) (λ name is tree t_is text p_is hex c_is.
+    rw (is, tree-from tree t t_is)
+    (rw (text_of-from text path p_is, bytes_of-from hex content c_is))) words are
+command_of-from words (commands.Call call fate) are =
+    of_each_and (call_tokens call) (fate_tokens fate) (IsRead (commands.Call call fate))
+    (each_of-call call fate) words are
 command_of-from words (commands.Query s slot) are =
-    of_each (command_tokens (commands.Query s slot)) (IsRead (commands.Query s slot))
-    (λ name is site s_is object o_is version v_is.
-    rw (is, site-from site s s_is, slot-from object version slot o_is v_is) refl) words are
+    from_each (commands.Query s slot) (λ name is site s_is object o_is version v_is.
+    rw (is, site-from site s s_is, slot-from object version slot o_is v_is)) words are
 command_of-from words (commands.Raw s bytes) are =
-    of_each (command_tokens (commands.Raw s bytes)) (IsRead (commands.Raw s bytes))
-    (λ name is site s_is hex b_is.
-    rw (is, site-from site s s_is, bytes_of-from hex bytes b_is) refl) words are
+    from_each (commands.Raw s bytes) (λ name is site s_is hex b_is.
+    rw (is, site-from site s s_is, bytes_of-from hex bytes b_is)) words are
 command_of-from words (commands.Pump n) are =
-    of_each (command_tokens (commands.Pump n)) (IsRead (commands.Pump n))
-    (λ name is turns n_is. rw (is, amount-from turns n n_is) refl) words are
+    from_each (commands.Pump n) (λ name is turns n_is. rw (is, amount-from turns n n_is)) words are
 command_of-from words (commands.Stop s) are =
-    of_each (command_tokens (commands.Stop s)) (IsRead (commands.Stop s))
-    (λ name is site s_is. rw (is, site-from site s s_is) refl) words are
+    from_each (commands.Stop s) (λ name is site s_is. rw (is, site-from site s s_is)) words are
 command_of-from words (commands.Start s) are =
-    of_each (command_tokens (commands.Start s)) (IsRead (commands.Start s))
-    (λ name is site s_is. rw (is, site-from site s s_is) refl) words are
+    from_each (commands.Start s) (λ name is site s_is. rw (is, site-from site s s_is)) words are
 
 -- ---- into the grammar
 
@@ -166,10 +136,9 @@ slot-says object version slot is =
 AreWordsFor-append : (a b : List (List ℕ)) (c d : List Token) → AreWordsFor a c → AreWordsFor b d
     → AreWordsFor (a ++ b) (c ++ d)
 AreWordsFor-append [] b [] d first second = second
-AreWordsFor-append [] b (token ∷ c) d first second = absurd first
-AreWordsFor-append (word ∷ a) b [] d first second = absurd first
 AreWordsFor-append (word ∷ a) b (token ∷ c) d first second =
     (first.0, AreWordsFor-append a b c d first.1 second)
+AreWordsFor-append _ b _ d first second = absurd first
 
 call-says : (own fate_words : List (List ℕ)) (call : Call) (command : Command)
     → call_command call fate_words ≡ Some command → AreWordsFor own (call_tokens call)
@@ -192,11 +161,10 @@ only-says : (keyword : List ℕ) (read : List ℕ → Option ℕ) (make : ℕ �
     → AreWordsFor (keyword ∷ word ∷ []) (command_tokens (make n)))
     → Says keyword (λ words. option_map make (only read words))
 unfolding only
-only-says keyword read make says [] command is = absurd (cc is)
 only-says keyword read make says (word ∷ []) command is =
     let n = mapped make (read word) command is in
     rw (← n.2) (says word n.0 n.1)
-only-says keyword read make says (word ∷ other ∷ words) command is = absurd (cc is)
+only-says keyword read make says _ command is = absurd (cc is)
 
 file_command-says : Says (codes "file") file_command
 unfolding file_command
@@ -204,14 +172,10 @@ file_command-says (tree ∷ path ∷ content ∷ []) command is =
     let t = bind_some _ _ command is in
     let p = bind_some _ _ command t.2 in
     let b = bind_some _ _ command p.2 in
+    let bytes = IsHexFor-bytes_of content b.0 b.1 in
     same_words command_tokens (codes "file" ∷ tree ∷ path ∷ content ∷ [])
-    (commands.File t.0 p.0 b.0) command b.2 (
-      refl,
-      (
-        tree-says tree t.0 t.1,
-        (IsTextFor-text_of path p.0 p.1, (IsHexFor-bytes_of content b.0 b.1, tt)),
-      ),
-    )
+    (commands.File t.0 p.0 b.0) command b.2
+    (refl, (tree-says tree t.0 t.1, (IsTextFor-text_of path p.0 p.1, (bytes, tt))))
 file_command-says words command is = absurd (cc is)
 
 deposit_command-says : Says (codes "deposit") deposit_command
@@ -220,14 +184,10 @@ deposit_command-says (site ∷ tree ∷ object ∷ version ∷ fate) command is 
     let s = bind_some _ _ command is in
     let t = bind_some _ _ command s.2 in
     let slot = bind_some _ _ command t.2 in
+    let of_slot = slot-says object version slot.0 slot.1 in
     call-says (codes "deposit" ∷ site ∷ tree ∷ object ∷ version ∷ []) fate
-    (Deposit s.0 t.0 slot.0) command slot.2 (
-      refl,
-      (
-        site-says site s.0 s.1,
-        (tree-says tree t.0 t.1, slot-says object version slot.0 slot.1),
-      ),
-    )
+    (Deposit s.0 t.0 slot.0) command slot.2
+    (refl, (site-says site s.0 s.1, (tree-says tree t.0 t.1, of_slot)))
 deposit_command-says words command is = absurd (cc is)
 
 propose_command-says : Says (codes "propose") propose_command
@@ -262,14 +222,10 @@ ask_command-says (site ∷ to ∷ object ∷ version ∷ fate) command is =
     let s = bind_some _ _ command is in
     let other = bind_some _ _ command s.2 in
     let slot = bind_some _ _ command other.2 in
+    let of_slot = slot-says object version slot.0 slot.1 in
     call-says (codes "ask" ∷ site ∷ to ∷ object ∷ version ∷ []) fate
-    (Ask s.0 other.0 slot.0) command slot.2 (
-      refl,
-      (
-        site-says site s.0 s.1,
-        (site-says to other.0 other.1, slot-says object version slot.0 slot.1),
-      ),
-    )
+    (Ask s.0 other.0 slot.0) command slot.2
+    (refl, (site-says site s.0 s.1, (site-says to other.0 other.1, of_slot)))
 ask_command-says words command is = absurd (cc is)
 
 query_command-says : Says (codes "query") query_command

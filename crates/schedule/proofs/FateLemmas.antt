@@ -10,9 +10,9 @@ use Rattle.schedule.specs.Commands.{amount_of, device_of, stop_of, fail_of, fate
 use Rattle.schedule.specs.Limits.{greatest_amount}
 use Rattle.schedule.specs.Lines.{device_token, amount_token, fate_tokens}
 use Rattle.schedule.specs.Tokens.{IsWordFor, AreWordsFor}
-use Rattle.words.proofs.GrammarLemmas.{number_in-from, IsNumeral-number_in}
-use Rattle.words.proofs.StepLemmas.{bind_some}
-use Rattle.schedule.proofs.TokenLemmas.{same_words, by_keyword, of_each}
+use Rattle.tokens.proofs.GrammarLemmas.{number_in-from, IsNumeral-number_in}
+use Rattle.tokens.proofs.StepLemmas.{bind_some}
+use Rattle.schedule.proofs.TokenLemmas.{same_words, by_keyword, of_each, OfEach}
 
 pub amount-from : (word : List ℕ) (n : ℕ)
     → IsWordFor word (amount_token n) → amount_of word ≡ Some n
@@ -22,25 +22,23 @@ amount-from word n is = number_in-from 0 greatest_amount word n is
 abbrev IsRead : Fate → List (List ℕ) → Type 0
 IsRead fate words = fate_of words ≡ Some fate
 
+each_of-fate : (fate : Fate) → OfEach (fate_tokens fate) (IsRead fate)
+unfolding fate_of stop_of fail_of
+each_of-fate Whole = refl
+each_of-fate (StopsIn Append kept) =
+    λ what is at at_is number n_is. rw (is, at_is, amount-from number kept n_is)
+each_of-fate (StopsIn Sync kept) =
+    λ what is at at_is number n_is. rw (is, at_is, amount-from number kept n_is)
+each_of-fate (StopsAfter sent) =
+    λ what is at at_is number n_is. rw (is, at_is, amount-from number sent n_is)
+each_of-fate (FailsIn Append kept) =
+    λ what is at at_is number n_is. rw (is, at_is, amount-from number kept n_is)
+each_of-fate (FailsIn Sync kept) =
+    λ what is at at_is number n_is. rw (is, at_is, amount-from number kept n_is)
+
 pub fate_of-from : (words : List (List ℕ)) (fate : Fate) → AreWordsFor words (fate_tokens fate)
     → fate_of words ≡ Some fate
-unfolding fate_of stop_of fail_of
-fate_of-from words Whole are = of_each (fate_tokens Whole) (IsRead Whole) refl words are
-fate_of-from words (StopsIn Append kept) are =
-    of_each (fate_tokens (StopsIn Append kept)) (IsRead (StopsIn Append kept))
-    (λ what is at at_is number n_is. rw (is, at_is, amount-from number kept n_is) refl) words are
-fate_of-from words (StopsIn Sync kept) are =
-    of_each (fate_tokens (StopsIn Sync kept)) (IsRead (StopsIn Sync kept))
-    (λ what is at at_is number n_is. rw (is, at_is, amount-from number kept n_is) refl) words are
-fate_of-from words (StopsAfter sent) are =
-    of_each (fate_tokens (StopsAfter sent)) (IsRead (StopsAfter sent))
-    (λ what is at at_is number n_is. rw (is, at_is, amount-from number sent n_is) refl) words are
-fate_of-from words (FailsIn Append kept) are =
-    of_each (fate_tokens (FailsIn Append kept)) (IsRead (FailsIn Append kept))
-    (λ what is at at_is number n_is. rw (is, at_is, amount-from number kept n_is) refl) words are
-fate_of-from words (FailsIn Sync kept) are =
-    of_each (fate_tokens (FailsIn Sync kept)) (IsRead (FailsIn Sync kept))
-    (λ what is at at_is number n_is. rw (is, at_is, amount-from number kept n_is) refl) words are
+fate_of-from words fate are = of_each (fate_tokens fate) (IsRead fate) (each_of-fate fate) words are
 
 -- ---- into the grammar
 

@@ -1,12 +1,12 @@
 -- The faults that texts have by cases are those that are found.
-use Rattle.std.proofs.Common.{◌≡◌, ℕ, ◌+◌, true, false, List, [], ◌∷◌, ◌++◌, length, Option, Some}
-use Rattle.std.proofs.Common.{None, Result, Ok, Err, refl, sym, ap, ◌∙◌, subst, inl, inr, arith}
+use Rattle.std.proofs.Common.{◌≡◌, ℕ, ◌+◌, false, List, [], ◌∷◌, ◌++◌, length, Option, Some, None}
+use Rattle.std.proofs.Common.{Result, Ok, Err, refl, sym, ap, ◌∙◌, subst, inl, inr, arith}
 use Rattle.std.specs.List.{AllByRecursion}
 use Rattle.std.specs.Str.Lines.{lines}
 use Rattle.std.proofs.lemmas.Bool.{cases_Bool}
 use Rattle.fed_types.specs.Sites.{Membership}
 use Rattle.schedule.specs.declared.command.Command.{Command}
-use Rattle.words.specs.Words.{words_of}
+use Rattle.tokens.specs.Words.{words_of}
 use Rattle.schedule.specs.Commands.{federation_of}
 use Rattle.schedule.specs.Plans.{is_skipped, later_line, later_lines, line_then, plan_from}
 use Rattle.schedule.specs.Plans.{plan_after, plan_of}
@@ -14,7 +14,7 @@ use Rattle.schedule.specs.Schedules.{IsSkipped, NamesMembers, Says, AllSay, HasF
 use Rattle.schedule.specs.Schedules.{no_federation, no_later_command}
 use Rattle.schedule.proofs.PlanLemmas.{plan_after-skipped, plan_after-federation, plan_after-none}
 use Rattle.schedule.proofs.SaysLemmas.{is_skipped-from, IsSkipped-is_skipped, later_line-from}
-use Rattle.schedule.proofs.SaysLemmas.{Says-later_line, says_nothing, nothing_said}
+use Rattle.schedule.proofs.SaysLemmas.{Says-later_line, says_nothing, nothing_said, none_of}
 use Rattle.schedule.proofs.ScheduleLemmas.{no_skip-members, members-from, NamesMembers-read}
 
 -- what is known of a fault, in lines of which the first has this number: those before it say
@@ -34,15 +34,12 @@ later_lines-fault : (number : ℕ) (good later : List (List ℕ)) (line : List �
     → later_lines number (good ++ line ∷ later) ≡ Err (number + length good)
 unfolding later_lines
 later_lines-fault number [] later line said say none =
-    let nothing : later_line line ≡ None = nothing_said line none in
-    rw nothing (ap (λ (k : ℕ). Err k) (omega arith))
+    rw (nothing_said line none) (ap (λ (k : ℕ). Err k) (omega arith))
 later_lines-fault number (first ∷ good) later line [] say none = absurd say
 later_lines-fault number (first ∷ good) later line (x ∷ said) say none =
-    ap (λ (f : Option (Option Command)). line_then f number
-    (later_lines (number + 1) (good ++ line ∷ later))) (later_line-from first x say.0)
-    ∙ ap (line_then (Some x) number)
-    (later_lines-fault (number + 1) good later line said say.1 none)
-    ∙ ap (λ (k : ℕ). Err k) (omega arith)
+    rw (later_line-from first x say.0)
+    (rw (later_lines-fault (number + 1) good later line said say.1 none)
+    (ap (λ (k : ℕ). Err k) (omega arith)))
 
 FaultIn-later_lines : (number : ℕ) (ls : List (List ℕ)) (fault : ℕ)
     → later_lines number ls ≡ Err fault → FaultIn ls number fault
@@ -74,7 +71,7 @@ FaultIn-later_lines number (line ∷ ls) fault is =
           later = rest.later;
           line = rest.line;
           said = x ∷ rest.said;
-          is = ap (λ (more : List (List ℕ)). line ∷ more) rest.is;
+          is = cc rest.is;
           say = (Says-later_line line x says, rest.say);
           none = rest.none;
           at = omega (arith, rest.at);
@@ -101,17 +98,14 @@ skipped_first : (skipped : ℕ) (line : List ℕ) (ls : List (List ℕ)) (fault 
 skipped_first skipped line ls fault skips (nothing _ _ _ are at) =
     nothing skipped (line ∷ ls) fault (skips, are) at
 skipped_first skipped line ls fault skips (first _ _ _ before later bad is are goes_on none at) =
-    first skipped (line ∷ ls) fault (line ∷ before) later bad
-    (ap (λ (more : List (List ℕ)). line ∷ more) is) (skips, are) goes_on none (omega (arith, at))
+    first skipped (line ∷ ls) fault (line ∷ before) later bad (cc is) (skips, are) goes_on none
+    (omega arith)
 skipped_first skipped line ls fault skips (other _ _ _ before rest named m is are names within) =
-    other skipped (line ∷ ls) fault (line ∷ before) rest named m
-    (ap (λ (more : List (List ℕ)). line ∷ more) is) (skips, are) names
+    other skipped (line ∷ ls) fault (line ∷ before) rest named m (cc is) (skips, are) names
     (subst (λ (k : ℕ). FaultIn rest k fault) (omega arith) within)
 
 not_skipped : (line : List ℕ) → is_skipped line ≡ false → ¬ IsSkipped line
-not_skipped line goes_on skips =
-    let both : true ≡ false = sym (is_skipped-from line skips) ∙ goes_on in
-    cc both
+not_skipped line goes_on skips = cc (is_skipped-from line skips, goes_on)
 
 -- the federation's line, or a later one, is at fault
 fault_from : (skipped : ℕ) (line : List ℕ) (ls : List (List ℕ)) (fault : ℕ)
@@ -122,8 +116,7 @@ fault_from : (skipped : ℕ) (line : List ℕ) (ls : List (List ℕ)) (fault : �
 fault_from skipped line ls fault goes_on None none is =
     let same : skipped + 1 ≡ fault = cc in
     first skipped (line ∷ ls) fault [] ls line refl tt (not_skipped line goes_on)
-    (λ m names. let some : None ≡ Some m = sym none ∙ members-from line m names in cc some)
-    (omega arith)
+    (λ m names. cc (none, members-from line m names)) (omega arith)
 fault_from skipped line ls fault goes_on (Some m) some is =
     go (later_lines (skipped + 2) ls) refl is
   where
@@ -134,14 +127,12 @@ fault_from skipped line ls fault goes_on (Some m) some is =
         let same : at ≡ fault = cc in
         other skipped (line ∷ ls) fault [] ls line m refl tt (NamesMembers-read line m some)
         (subst (λ (k : ℕ). FaultIn ls k fault) (omega arith)
-        (FaultIn-later_lines (skipped + 2) ls fault (after ∙ ap (λ (k : ℕ). Err k) same)))
+        (FaultIn-later_lines (skipped + 2) ls fault (rw (after, same))))
 
 FaultAfter-plan_after : (skipped : ℕ) (ls : List (List ℕ)) (fault : ℕ)
     → plan_after skipped ls ≡ Err fault → FaultAfter skipped ls fault
 FaultAfter-plan_after skipped [] fault is =
-    let found : Err 1 ≡ Err fault = sym (plan_after-none skipped) ∙ is in
-    let same : 1 ≡ fault = cc in
-    nothing skipped [] fault tt (sym same)
+    nothing skipped [] fault tt (cc (plan_after-none skipped, is))
 FaultAfter-plan_after skipped (line ∷ ls) fault is =
     elim (cases_Bool (is_skipped line)) [
       | inl skips ↦ skipped_first skipped line ls fault (IsSkipped-is_skipped line skips)
@@ -162,8 +153,7 @@ HasFault-plan_of text number is = go (FaultAfter-plan_after 0 (lines text) numbe
         no_federation text number before later line is are goes_on none (omega (arith, at))
     go (other _ _ _ before rest line m is are names within) =
         no_later_command text number before within.good within.later line within.line m within.said
-        (is ∙ ap (λ (more : List (List ℕ)). before ++ line ∷ more) within.is) are names within.say
-        within.none (omega (arith, within.at))
+        (cc (is, within.is)) are names within.say within.none (omega (arith, within.at))
 
 -- ---- from the cases
 
@@ -173,9 +163,8 @@ plan_after-skips : (skipped : ℕ) (before ls : List (List ℕ)) → AllByRecurs
 plan_after-skips skipped [] ls are =
     ap (λ (k : ℕ). plan_after k ls) (omega arith)
 plan_after-skips skipped (line ∷ before) ls are =
-    plan_after-skipped skipped line (before ++ ls) (is_skipped-from line are.0)
-    ∙ plan_after-skips (skipped + 1) before ls are.1
-    ∙ ap (λ (k : ℕ). plan_after k ls) (omega arith)
+    rw (plan_after-skipped skipped line (before ++ ls) (is_skipped-from line are.0))
+    (plan_after-skips (skipped + 1) before ls are.1 ∙ ap (λ (k : ℕ). plan_after k ls) (omega arith))
 
 plan_after-all_skipped : (skipped : ℕ) (ls : List (List ℕ)) → AllByRecursion IsSkipped ls
     → plan_after skipped ls ≡ Err 1
@@ -186,11 +175,8 @@ plan_after-all_skipped skipped (line ∷ ls) are =
 
 no_members : (line : List ℕ) → ((m : Membership) → ¬ NamesMembers line m)
     → federation_of (words_of line) ≡ None
-no_members line none = go (federation_of (words_of line)) refl
-  where
-    go : (found : Option Membership) → federation_of (words_of line) ≡ found → found ≡ None
-    go None is = refl
-    go (Some m) is = absurd (none m (NamesMembers-read line m is))
+no_members line none =
+    none_of (federation_of (words_of line)) (λ m is. none m (NamesMembers-read line m is))
 
 goes_on_from : (line : List ℕ) → ¬ IsSkipped line → is_skipped line ≡ false
 goes_on_from line isnt =
@@ -205,20 +191,15 @@ unfolding plan_of
 plan_of-fault _ _ (no_command text number are at) =
     plan_after-all_skipped 0 (lines text) are ∙ ap (λ (k : ℕ). Err k) (sym at)
 plan_of-fault _ _ (no_federation text number before later line is are isnt none at) =
-    ap (plan_after 0) is
-    ∙ plan_after-skips 0 before (line ∷ later) are
-    ∙ plan_after-federation (0 + length before) line later (goes_on_from line isnt)
-    ∙ ap (λ (m : Option Membership). plan_from (0 + length before) m
-    (later_lines (0 + length before + 2) later)) (no_members line none)
-    ∙ ap (λ (k : ℕ). Err k) (omega (arith, at))
+    rw (is, plan_after-skips 0 before (line ∷ later) are)
+    (rw (plan_after-federation (0 + length before) line later (goes_on_from line isnt))
+    (rw (no_members line none) (ap (λ (k : ℕ). Err k) (omega arith))))
 plan_of-fault _ _
     (no_later_command text number before good later named line m said is are names say none at) =
-    ap (plan_after 0) is
-    ∙ plan_after-skips 0 before (named ∷ (good ++ line ∷ later)) are
-    ∙ plan_after-federation (0 + length before) named (good ++ line ∷ later)
-    (no_skip-members named m names)
-    ∙ ap (λ (found : Option Membership). plan_from (0 + length before) found
-    (later_lines (0 + length before + 2) (good ++ line ∷ later))) (members-from named m names)
-    ∙ ap (plan_from (0 + length before) (Some m))
-    (later_lines-fault (0 + length before + 2) good later line said say none)
-    ∙ ap (λ (k : ℕ). Err k) (omega (arith, at))
+    let others = good ++ line ∷ later in
+    let goes_on = no_skip-members named m names in
+    rw (is, plan_after-skips 0 before (named ∷ others) are)
+    (rw (plan_after-federation (0 + length before) named others goes_on)
+    (rw (members-from named m names)
+    (rw (later_lines-fault (0 + length before + 2) good later line said say none)
+    (ap (λ (k : ℕ). Err k) (omega arith)))))

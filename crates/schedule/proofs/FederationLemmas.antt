@@ -1,20 +1,18 @@
 -- The words that the grammar has for a federation's members are those that are read as them.
-use Rattle.std.proofs.Common.{◌≡◌, ℕ, ◌≤◌, true, false, eqb, List, [], ◌∷◌, length}
-use Rattle.std.proofs.Common.{map, replicate, Some, None, refl, sym, ap, ◌∙◌, subst, inl}
-use Rattle.std.proofs.Common.{inr, ◌⊎◌, arith}
+use Rattle.std.proofs.Common.{◌≡◌, ℕ, ◌≤◌, false, eqb, List, [], ◌∷◌, length, map, replicate, Some}
+use Rattle.std.proofs.Common.{refl, sym, ap, ◌∙◌, subst, inl, inr, ◌⊎◌, arith}
 use Rattle.std.specs.Prelude.{codes}
 use Rattle.std.proofs.lemmas.Bool.{cases_Bool, eqb-true, eq-eqb, ne_eqb}
 use Rattle.std.proofs.lemmas.List.{length-map, length-replicate}
 use Rattle.std.proofs.lemmas.Option.{same_Some}
-use Rattle.fed_types.specs.Limits.{most_members, greatest_weight}
+use Rattle.fed_types.specs.Limits.{most_members, greatest_weight, greatest_federation}
 use Rattle.fed_types.specs.Sites.{Membership, membership_of, count_of}
-use Rattle.words.specs.Words.{number_in}
+use Rattle.tokens.specs.Words.{number_in}
 use Rattle.schedule.specs.Commands.{federation_of, weights_in, weights_of}
-use Rattle.fed_types.specs.Limits.{greatest_federation}
 use Rattle.schedule.specs.Lines.{federation_tokens, AreWordsForMembers}
 use Rattle.schedule.specs.Tokens.{Token, Number, IsWordFor, AreWordsFor}
-use Rattle.words.proofs.GrammarLemmas.{number_in-from, IsNumeral-number_in}
-use Rattle.words.proofs.StepLemmas.{bind_some}
+use Rattle.tokens.proofs.GrammarLemmas.{number_in-from, IsNumeral-number_in}
+use Rattle.tokens.proofs.StepLemmas.{bind_some}
 use Rattle.schedule.proofs.TokenLemmas.{mapped, by_keyword, of_each, of_each_and}
 
 -- the token of a weight
@@ -25,10 +23,9 @@ weight_token w = Number 1 greatest_weight w
 length-words : (words : List (List ℕ)) (tokens : List Token) → AreWordsFor words tokens
     → length words ≡ length tokens
 length-words [] [] are = refl
-length-words [] (token ∷ tokens) are = absurd are
-length-words (word ∷ words) [] are = absurd are
 length-words (word ∷ words) (token ∷ tokens) are =
     omega (arith, length-words words tokens are.1)
+length-words _ _ are = absurd are
 
 length-weights : (words : List (List ℕ)) (weights : List ℕ)
     → AreWordsFor words (map (λ w. weight_token w) weights) → length words ≡ length weights
@@ -42,13 +39,9 @@ weights_in-from : (words : List (List ℕ)) (weights : List ℕ)
     → AreWordsFor words (map (λ w. weight_token w) weights) → weights_in words ≡ Some weights
 unfolding weights_in
 weights_in-from [] [] are = refl
-weights_in-from [] (w ∷ weights) are = absurd are
-weights_in-from (word ∷ words) [] are = absurd are
 weights_in-from (word ∷ words) (w ∷ weights) are =
-    rw (
-      number_in-from 1 greatest_weight word w are.0,
-      weights_in-from words weights are.1,
-    ) refl
+    rw (number_in-from 1 greatest_weight word w are.0, weights_in-from words weights are.1)
+weights_in-from _ _ are = absurd are
 
 weights_of-named : (words : List (List ℕ)) (weights : List ℕ) → 1 ≤ length weights
     → AreWordsFor words (map (λ w. weight_token w) weights)
@@ -56,16 +49,13 @@ weights_of-named : (words : List (List ℕ)) (weights : List ℕ) → 1 ≤ leng
 unfolding weights_of
 weights_of-named words weights some are =
     let count = length-weights words weights are in
-    let not_none : eqb (length words) 0 ≡ false =
-    ne_eqb (length words) 0 (λ e. omega (arith, count, some, e)) in
-    let all : eqb (length words) (length weights) ≡ true =
-    eq-eqb (length words) (length weights) count in
-    rw (not_none, all) (weights_in-from words weights are)
+    let not_none = ne_eqb (length words) 0 (λ e. omega arith) in
+    rw (not_none, eq-eqb (length words) (length weights) count) (weights_in-from words weights are)
 
 weights_of-none : (n : ℕ) (weights : List ℕ) → weights ≡ replicate n 1
     → weights_of n [] ≡ Some weights
 unfolding weights_of
-weights_of-none n weights are = ap (λ (ws : List ℕ). Some ws) (sym are)
+weights_of-none n weights are = rw are
 
 -- the fact that the words are read as the members
 abbrev IsRead : Membership → List (List ℕ) → Type 0
@@ -77,22 +67,16 @@ unfolding federation_of
 federation_of-from words m (inl are) =
     of_each_and (federation_tokens m []) (map (λ w. weight_token w) m.weights) (IsRead m)
     (λ name is federation f_is count n_is weights weights_are.
-    rw (
-      is,
-      number_in-from 0 greatest_federation federation m.federation f_is,
-      number_in-from 1 most_members count (count_of m) n_is,
-      weights_of-named weights m.weights n_is.1 weights_are,
-    ) refl)
+    rw (is, number_in-from 0 greatest_federation federation m.federation f_is)
+    (rw (number_in-from 1 most_members count (count_of m) n_is)
+    (rw (weights_of-named weights m.weights n_is.1 weights_are))))
     words are
 federation_of-from words m (inr are) =
     of_each (federation_tokens m []) (IsRead m)
     (λ name is federation f_is count n_is.
-    rw (
-      is,
-      number_in-from 0 greatest_federation federation m.federation f_is,
-      number_in-from 1 most_members count (count_of m) n_is,
-      weights_of-none (count_of m) m.weights are.1,
-    ) refl)
+    rw (is, number_in-from 0 greatest_federation federation m.federation f_is)
+    (rw (number_in-from 1 most_members count (count_of m) n_is)
+    (rw (weights_of-none (count_of m) m.weights are.1))))
     words are.0
 
 -- ---- into the grammar
@@ -124,15 +108,10 @@ weights_of-says n (word ∷ words) weights is =
     ne_eqb (length (word ∷ words)) 0 (λ e. omega arith) in
     elim (cases_Bool (eqb (length (word ∷ words)) n)) [
       | inl same ↦
-          let found : weights_in (word ∷ words) ≡ Some weights = rw (some, same) at is in
-          let are = weights_in-says (word ∷ words) weights found in (
-            sym (length-weights (word ∷ words) weights are)
-                ∙ eqb-true (length (word ∷ words)) n same,
-            inl are,
-          )
-      | inr other ↦
-          let none : None ≡ Some weights = rw (some, other) at is in
-          absurd (cc none)
+          let are = weights_in-says (word ∷ words) weights (rw (some, same) at is) in
+          let count = length-weights (word ∷ words) weights are in
+          (sym count ∙ eqb-true (length (word ∷ words)) n same, inl are)
+      | inr other ↦ absurd (cc (rw (some, other) at is))
     ]
 
 -- the parts of a line that names members
@@ -145,14 +124,11 @@ members_from federation count words f n weights f_is n_is w_is =
     let some = weights_of-says n words weights w_is in
     let f_word = IsNumeral-number_in 0 greatest_federation federation f f_is in
     let n_word : IsWordFor count (Number 1 most_members (length weights)) =
-    subst (λ (k : ℕ). IsWordFor count (Number 1 most_members k)) (sym some.0)
-    (IsNumeral-number_in 1 most_members count n n_is) in
+    rw some.0 (IsNumeral-number_in 1 most_members count n n_is) in
     elim (some.1) [
       | inl named ↦ inl (refl, (f_word, (n_word, named)))
       | inr none ↦ inr (
-        subst (λ (ws : List (List ℕ)). AreWordsFor (codes "federation" ∷ federation ∷ count ∷ ws)
-            (federation_tokens (membership_of f weights) []))
-            (sym none.0) (refl, (f_word, (n_word, tt))),
+        rw none.0 (refl, (f_word, (n_word, tt))),
         none.1 ∙ ap (λ (k : ℕ). replicate k 1) (sym some.0),
       )
     ]

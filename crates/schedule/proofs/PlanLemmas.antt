@@ -1,6 +1,6 @@
 -- Lines that are read one after another.
 use Rattle.std.proofs.Common.{◌≡◌, ℕ, ◌+◌, true, false, List, [], ◌∷◌, ◌++◌, Option, Some, None}
-use Rattle.std.proofs.Common.{Result, Ok, Err, refl, sym, ap, ◌∙◌, append_assoc}
+use Rattle.std.proofs.Common.{Result, Ok, Err, refl, append_assoc}
 use Rattle.std.proofs.lemmas.List.{append-nil}
 use Rattle.fed_types.specs.Sites.{Membership}
 use Rattle.schedule.specs.declared.command.Command.{Command}
@@ -11,17 +11,13 @@ use Rattle.schedule.specs.Plans.{Plan, is_skipped, later_line, later_lines, line
 use Rattle.schedule.specs.Plans.{plan_after}
 use Rattle.schedule.specs.Commands.{federation_of}
 use Rattle.schedule.specs.Faults.{IsOrMemory}
-use Rattle.words.specs.Words.{words_of}
+use Rattle.tokens.specs.Words.{words_of}
 
 -- the lines read earlier, and then what the rest says
 abbrev pub with_earlier : List (Option Command) → Result (List (Option Command)) ℕ
     → Result (List (Option Command)) ℕ
 with_earlier front (Ok commands) = Ok (front ++ commands)
 with_earlier front (Err fault) = Err fault
-
-pub with_earlier-none : (later : Result (List (Option Command)) ℕ) → with_earlier [] later ≡ later
-with_earlier-none (Ok commands) = refl
-with_earlier-none (Err fault) = refl
 
 -- a line more that was read
 pub with_earlier-more : (front : List (Option Command)) (number : ℕ) (line : List ℕ)
@@ -30,15 +26,12 @@ pub with_earlier-more : (front : List (Option Command)) (number : ℕ) (line : L
     ≡ with_earlier (front ++ said ∷ []) (later_lines (number + 1) lines)
 unfolding later_lines
 with_earlier-more front number line lines said says =
-    ap (λ (s : Option (Option Command)). with_earlier front
-    (line_then s number (later_lines (number + 1) lines))) says
-    ∙ go (later_lines (number + 1) lines)
+    rw says (go (later_lines (number + 1) lines))
   where
     go : (later : Result (List (Option Command)) ℕ)
         → with_earlier front (line_then (Some said) number later)
         ≡ with_earlier (front ++ said ∷ []) later
-    go (Ok commands) =
-        ap (λ (cs : List (Option Command)). Ok cs) (sym (append_assoc front (said ∷ []) commands))
+    go (Ok commands) = rw append_assoc
     go (Err fault) = refl
 
 -- a line that is at fault
@@ -46,19 +39,19 @@ pub with_earlier-fault : (front : List (Option Command)) (number : ℕ) (line : 
     (lines : List (List ℕ)) → later_line line ≡ None
     → with_earlier front (later_lines number (line ∷ lines)) ≡ Err number
 unfolding later_lines
-with_earlier-fault front number line lines says = rw says refl
+with_earlier-fault front number line lines says = rw says
 
 -- no line more
 pub with_earlier-all : (front : List (Option Command)) (number : ℕ)
     → with_earlier front (later_lines number []) ≡ Ok front
 unfolding later_lines
-with_earlier-all front number = ap (λ (cs : List (Option Command)). Ok cs) (append-nil front)
+with_earlier-all front number = rw append-nil
 
 -- a line before the federation's that is skipped
 pub plan_after-skipped : (skipped : ℕ) (line : List ℕ) (lines : List (List ℕ))
     → is_skipped line ≡ true → plan_after skipped (line ∷ lines) ≡ plan_after (skipped + 1) lines
 unfolding plan_after
-plan_after-skipped skipped line lines is = rw is refl
+plan_after-skipped skipped line lines is = rw is
 
 -- the federation's line
 pub plan_after-federation : (skipped : ℕ) (line : List ℕ) (lines : List (List ℕ))
@@ -66,7 +59,7 @@ pub plan_after-federation : (skipped : ℕ) (line : List ℕ) (lines : List (Lis
     → plan_after skipped (line ∷ lines)
     ≡ plan_from skipped (federation_of (words_of line)) (later_lines (skipped + 2) lines)
 unfolding plan_after
-plan_after-federation skipped line lines isnt = rw isnt refl
+plan_after-federation skipped line lines isnt = rw isnt
 
 -- no line more
 pub plan_after-none : (skipped : ℕ) → plan_after skipped [] ≡ Err 1
@@ -85,7 +78,7 @@ pub IsOrMemory-no_federation : (plan : Result Plan ℕ) (skipped : ℕ) (members
     → plan ≡ plan_from skipped members later
     → members ≡ None → fault ≡ Line (skipped + 1) → IsOrMemory (Err fault) plan
 IsOrMemory-no_federation plan skipped members later fault is none at =
-    rw at (is ∙ ap (λ (m : Option Membership). plan_from skipped m later) none)
+    rw (at, is, none) refl
 
 -- a line after the federation's that is at fault
 pub IsOrMemory-later_fault : (plan : Result Plan ℕ) (skipped : ℕ) (members : Option Membership)
@@ -93,6 +86,5 @@ pub IsOrMemory-later_fault : (plan : Result Plan ℕ) (skipped : ℕ) (members :
     → plan ≡ plan_from skipped members later
     → members ≡ Some known → IsOrMemory (Err fault) later → IsOrMemory (Err fault) plan
 IsOrMemory-later_fault plan skipped members known later (Line number) is some fails =
-    is ∙ ap (λ (m : Option Membership). plan_from skipped m later) some
-    ∙ ap (plan_from skipped (Some known)) fails
+    rw (is, some, fails) refl
 IsOrMemory-later_fault plan skipped members known later Memory is some fails = tt

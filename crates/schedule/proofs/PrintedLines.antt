@@ -1,8 +1,7 @@
 -- Printed lines are read again, and a printed schedule as a whole.
-use Rattle.std.proofs.Common.{◌≡◌, ℕ, zero, suc, ◌+◌, ◌-◌, ◌<◌, Bool, true, false, not, eqb}
-use Rattle.std.proofs.Common.{List, [], ◌∷◌, ◌++◌, length, get_or, map, All, Option, Some, None, Ok}
-use Rattle.std.proofs.Common.{replicate, refl, sym, ap, ◌∙◌, inl, inr, append_assoc, take}
-use Rattle.std.proofs.Common.{arith}
+use Rattle.std.proofs.Common.{◌≡◌, ℕ, zero, suc, ◌+◌, ◌-◌, ◌<◌, Bool, true, false, not, eqb, List}
+use Rattle.std.proofs.Common.{[], ◌∷◌, ◌++◌, length, get_or, map, All, Option, Some, None, Ok}
+use Rattle.std.proofs.Common.{replicate, refl, sym, ap, ◌∙◌, inl, inr, append_assoc, take, arith}
 use Rattle.std.specs.Prelude.{IfSome, filter, codes}
 use Rattle.std.specs.Fmt.{decimal}
 use Rattle.std.specs.List.{AllByRecursion, slice_split, join_with_byte, flat_map}
@@ -14,24 +13,22 @@ use Rattle.std.proofs.lemmas.List.Splits.{slice_split_none, slice_split_at, leng
 use Rattle.fed_types.specs.Sites.{Membership, count_of}
 use Rattle.fed_types.specs.Values.{IsMembership}
 use Rattle.schedule.specs.declared.call.Call.{Call}
-use Rattle.schedule.specs.declared.call.Call.TheVariants.{Deposit, Propose, Recover, Deliver, Ask}
+use Rattle.schedule.specs.declared.call.Call.TheVariants.{Deliver}
 use Rattle.schedule.specs.declared.command.Command.{Command}
 use Rattle.schedule.specs.declared.command.Command.TheVariants as commands
 use Rattle.schedule.specs.declared.fate.DeviceCall.TheVariants.{Append, Sync}
 use Rattle.schedule.specs.declared.fate.Fate.{Fate}
-use Rattle.schedule.specs.declared.fate.Fate.TheVariants.{Whole, StopsIn, StopsAfter, FailsIn}
-use Rattle.words.specs.Words.{words_of}
-use Rattle.schedule.specs.Commands.{federation_of}
+use Rattle.schedule.specs.declared.fate.Fate.TheVariants.{StopsIn, FailsIn}
+use Rattle.tokens.specs.Words.{words_of}
 use Rattle.schedule.specs.Lines.{call_tokens, fate_tokens, command_tokens}
-use Rattle.schedule.specs.Plans.{Plan, is_skipped, later_line, later_lines, line_then, plan_from}
-use Rattle.schedule.specs.Plans.{plan_after, plan_of}
+use Rattle.schedule.specs.Plans.{Plan, is_skipped, later_line, later_lines, plan_after, plan_of}
 use Rattle.schedule.specs.Schedules.{IsCommand, IsPlan}
 use Rattle.schedule.specs.Texts.{words_for, federation_words, federation_line, printed_line}
 use Rattle.schedule.specs.Texts.{printed_weights, schedule_text}
 use Rattle.schedule.specs.inner.Printed.{IsWord}
-use Rattle.words.proofs.EscapeLemmas.{IsAbove}
-use Rattle.words.proofs.GrammarLemmas.{HasWords-words_of}
-use Rattle.words.proofs.LineLemmas.{ends_line, lines_of_more_parts}
+use Rattle.tokens.proofs.EscapeLemmas.{IsAbove}
+use Rattle.tokens.proofs.GrammarLemmas.{HasWords-words_of}
+use Rattle.tokens.proofs.LineLemmas.{ends_line, lines_of_more_parts}
 use Rattle.schedule.proofs.PlanLemmas.{plan_after-skipped, plan_after-federation}
 use Rattle.schedule.proofs.PrintedFederation.{AreWords-federation, federation_of-printed}
 use Rattle.schedule.proofs.SaysLemmas.{later_line-from, no_skip-words}
@@ -56,8 +53,7 @@ kept : (word : List ℕ) (more : List (List ℕ)) → IsWord word
     → filter (λ w. not (eqb (length w) 0)) (word ∷ more)
     ≡ word ∷ filter (λ w. not (eqb (length w) 0)) more
 kept word more is =
-    let some : eqb (length word) 0 ≡ false = ne_eqb (length word) 0 (λ e. omega (arith, is.0)) in
-    rw some refl
+    rw (ne_eqb (length word) 0 (λ e. omega (arith, is.0)))
 
 -- the words of a line that was made of words
 pub words_of-join : (words : List (List ℕ)) → AllByRecursion IsWord words
@@ -65,14 +61,12 @@ pub words_of-join : (words : List (List ℕ)) → AllByRecursion IsWord words
 unfolding words_of
 words_of-join [] are = refl
 words_of-join (word ∷ []) are =
-    ap (filter (λ w. not (eqb (length w) 0)))
-    (slice_split_none splits_words word (no_space word are.0)) ∙ kept word [] are.0
+    rw (slice_split_none splits_words word (no_space word are.0)) (kept word [] are.0)
 words_of-join (word ∷ next ∷ more) are =
-    ap (filter (λ w. not (eqb (length w) 0)))
-    (slice_split_at splits_words word 32 (join_with_byte 32 (next ∷ more)) (no_space word are.0)
-    refl)
-    ∙ kept word (slice_split splits_words (join_with_byte 32 (next ∷ more))) are.0
-    ∙ ap (λ (ws : List (List ℕ)). word ∷ ws) (words_of-join (next ∷ more) are.1)
+    let rest = join_with_byte 32 (next ∷ more) in
+    rw (slice_split_at splits_words word 32 rest (no_space word are.0) refl)
+    (kept word (slice_split splits_words rest) are.0
+    ∙ ap (λ (ws : List (List ℕ)). word ∷ ws) (words_of-join (next ∷ more) are.1))
 
 -- such a line has no CR and no LF
 pub in_line : (words : List (List ℕ)) → AllByRecursion IsWord words
@@ -94,7 +88,7 @@ strip_carriage_return-in_line line are =
       | inl some ↦ omega (arith, are (length line - 1) 0 (omega arith))
       | inr none ↦ omega (arith, get_or_past line (length line - 1) 0 (omega arith))
     ]) in
-    rw last refl
+    rw last
 
 -- the first line of lines that LF ends
 pub lines-line : (line rest : List ℕ) → All IsInLine line
@@ -111,31 +105,20 @@ lines-line line rest are =
 
 -- each keyword is a word, and each range fits
 plain_fate : (fate : Fate) → are_plain (fate_tokens fate) ≡ true
-plain_fate Whole = refl
 plain_fate (StopsIn Append kept) = refl
 plain_fate (StopsIn Sync kept) = refl
-plain_fate (StopsAfter sent) = refl
 plain_fate (FailsIn Append kept) = refl
 plain_fate (FailsIn Sync kept) = refl
+plain_fate _ = refl
 
 plain_call : (call : Call) → are_plain (call_tokens call) ≡ true
-plain_call (Deposit s t slot) = refl
-plain_call (Propose s slot) = refl
-plain_call (Recover s slot) = refl
 plain_call (Deliver k) = refl
-plain_call (Ask s to slot) = refl
+plain_call _ = refl
 
 plain_command : (command : Command) → are_plain (command_tokens command) ≡ true
-plain_command (commands.Tree t) = refl
-plain_command (commands.Folder t) = refl
-plain_command (commands.File t path content) = refl
 plain_command (commands.Call call fate) =
     are_plain-append (call_tokens call) (fate_tokens fate) (plain_call call) (plain_fate fate)
-plain_command (commands.Query s slot) = refl
-plain_command (commands.Raw s bytes) = refl
-plain_command (commands.Pump n) = refl
-plain_command (commands.Stop s) = refl
-plain_command (commands.Start s) = refl
+plain_command _ = refl
 
 -- the words of a command
 AreWords-command : (command : Command) → IsCommand command
@@ -181,19 +164,13 @@ pub later_lines-printed : (number : ℕ) (said : List (Option Command))
 unfolding later_lines
 later_lines-printed number [] are = refl
 later_lines-printed number (None ∷ more) are =
-    ap (later_lines number) (lines-line [] (flat_map printed_line more) (All-nil IsInLine))
-    ∙ ap (λ (s : Option (Option Command)). line_then s number
-    (later_lines (number + 1) (lines (flat_map printed_line more)))) later_line-empty
-    ∙ ap (line_then (Some None) number) (later_lines-printed (number + 1) more are.1)
+    rw (lines-line [] (flat_map printed_line more) (All-nil IsInLine), later_line-empty)
+    (rw (later_lines-printed (number + 1) more are.1))
 later_lines-printed number (Some command ∷ more) are =
     let line = join_with_byte 32 (words_for command) in
-    ap (later_lines number)
-    (lines-line line (flat_map printed_line more)
-    (in_line (words_for command) (AreWords-command command are.0)))
-    ∙ ap (λ (s : Option (Option Command)). line_then s number
-    (later_lines (number + 1) (lines (flat_map printed_line more))))
-    (later_line-command command are.0)
-    ∙ ap (line_then (Some (Some command)) number) (later_lines-printed (number + 1) more are.1)
+    let is_line = in_line (words_for command) (AreWords-command command are.0) in
+    rw (lines-line line (flat_map printed_line more) is_line, later_line-command command are.0)
+    (rw (later_lines-printed (number + 1) more are.1))
 
 -- empty lines
 empty_is_skipped : is_skipped [] ≡ true
@@ -219,17 +196,16 @@ plan_of-schedule_text plan is =
     let rest = flat_map printed_line plan.lines in
     let are = AreWords-federation m is.members in
     let words = words_of-join (federation_words m) are in
+    let goes_on = federation_goes_on m is.members in
+    let skipped : 0 + plan.skipped ≡ plan.skipped = omega arith in
     ap (λ (t : List ℕ). plan_after 0 (lines t))
     (append_assoc (replicate plan.skipped 10) (federation_line m) rest)
     ∙ plan_after-blank plan.skipped 0 (federation_line m ++ rest)
     ∙ ap (plan_after (0 + plan.skipped)) (lines-line line rest (in_line (federation_words m) are))
-    ∙ ap (λ (k : ℕ). plan_after k (line ∷ lines rest)) (omega arith)
-    ∙ plan_after-federation plan.skipped line (lines rest) (federation_goes_on m is.members)
-    ∙ ap (λ (found : Option Membership). plan_from plan.skipped found
-    (later_lines (plan.skipped + 2) (lines rest)))
-    (ap federation_of words ∙ federation_of-printed m is.members)
-    ∙ ap (plan_from plan.skipped (Some m))
-    (later_lines-printed (plan.skipped + 2) plan.lines is.lines)
+    ∙ ap (λ (k : ℕ). plan_after k (line ∷ lines rest)) skipped
+    ∙ rw (plan_after-federation plan.skipped line (lines rest) goes_on, words)
+    (rw (federation_of-printed m is.members)
+    (rw (later_lines-printed (plan.skipped + 2) plan.lines is.lines)))
 
 -- one line more is printed
 pub flat_map_line-more : (front : List ℕ) (said : List (Option Command)) (i : ℕ)
@@ -239,5 +215,4 @@ pub flat_map_line-more : (front : List ℕ) (said : List (Option Command)) (i : 
 flat_map_line-more front said i line within is =
     let more : take (i + 1) said ≡ take i said ++ line ∷ [] =
     take_more said i line within ∙ ap (λ (l : Option Command). take i said ++ l ∷ []) (sym is) in
-    flat_map_more printed_line front (take i said) line
-    ∙ ap (λ (ls : List (Option Command)). front ++ flat_map printed_line ls) (sym more)
+    rw more (flat_map_more printed_line front (take i said) line)

@@ -1,6 +1,6 @@
 -- What is read of a text is in range: each part of it has a word.
-use Rattle.std.proofs.Common.{◌≡◌, ℕ, zero, suc, ◌<◌, List, [], ◌∷◌, length, map}
-use Rattle.std.proofs.Common.{replicate, All, Option, Some, None, Ok, sym, subst, inl, inr, arith}
+use Rattle.std.proofs.Common.{◌≡◌, ℕ, zero, suc, ◌<◌, List, [], ◌∷◌, length, map, replicate, All}
+use Rattle.std.proofs.Common.{Option, Some, None, Ok, sym, subst, inl, inr, arith}
 use Rattle.std.specs.Prelude.{IfSome}
 use Rattle.std.specs.List.{AllByRecursion}
 use Rattle.std.proofs.lemmas.List.Elements.{All-nil, All-cons}
@@ -8,7 +8,7 @@ use Rattle.fed_types.specs.Limits.{greatest_weight}
 use Rattle.fed_types.specs.Sites.{IsWeight, Membership, count_of}
 use Rattle.fed_types.specs.Values.{IsMembership}
 use Rattle.schedule.specs.declared.command.Command.{Command}
-use Rattle.words.specs.Grammar.{HasWords, spaces, word}
+use Rattle.tokens.specs.Grammar.{HasWords, spaces, word}
 use Rattle.schedule.specs.Lines.{command_tokens, federation_tokens}
 use Rattle.schedule.specs.Plans.{Plan, plan_of}
 use Rattle.schedule.specs.Schedules.{NamesMembers, Says, AllSay, IsCommand, IsPlan}
@@ -37,21 +37,12 @@ IsMembership-named line m names =
     let some = words_some line names.0 names.1 in
     elim (names.2) [
       | inl named ↦
-          let have = HaveWords-from names.0 (federation_tokens m m.weights) some named in (
-            omega (arith, have.1.0),
-            (
-              (have.1.1.0.0, have.1.1.0.1),
-              weights_fit m.weights have.1.1.1,
-            ),
-          )
+          let have = HaveWords-from names.0 (federation_tokens m m.weights) some named in
+          (omega (arith, have.1.0), (have.1.1.0, weights_fit m.weights have.1.1.1))
       | inr ones ↦
-          let have = HaveWords-from names.0 (federation_tokens m []) some ones.0 in (
-            omega (arith, have.1.0),
-            (
-              (have.1.1.0.0, have.1.1.0.1),
-              subst (All IsWeight) (sym ones.1) (ones_fit (count_of m)),
-            ),
-          )
+          let have = HaveWords-from names.0 (federation_tokens m []) some ones.0 in
+          let fit = subst (All IsWeight) (sym ones.1) (ones_fit (count_of m)) in
+          (omega (arith, have.1.0), (have.1.1.0, fit))
     ]
 
 said_fits : (line : List ℕ) (said : Option Command) → Says line said → IfSome said IsCommand
@@ -62,9 +53,8 @@ said_fits line (Some command) says =
 all_fit : (ls : List (List ℕ)) (said : List (Option Command)) → AllSay ls said
     → AllByRecursion (λ x. IfSome x IsCommand) said
 all_fit [] [] say = tt
-all_fit [] (x ∷ said) say = absurd say
-all_fit (line ∷ ls) [] say = absurd say
 all_fit (line ∷ ls) (x ∷ said) say = (said_fits line x say.0, all_fit ls said say.1)
+all_fit _ _ say = absurd say
 
 pub IsPlan-plan_of : (text : List ℕ) (plan : Plan) → plan_of text ≡ Ok plan → IsPlan plan
 IsPlan-plan_of text plan is =

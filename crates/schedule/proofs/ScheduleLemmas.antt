@@ -1,19 +1,19 @@
 -- The schedules that texts are of by cases are those that are read.
-use Rattle.std.proofs.Common.{◌≡◌, ℕ, ◌+◌, false, List, [], ◌∷◌, ◌++◌, length, Option, Some}
-use Rattle.std.proofs.Common.{None, Result, Ok, Err, refl, sym, ap, ◌∙◌, subst, inl, inr, arith}
+use Rattle.std.proofs.Common.{◌≡◌, ℕ, ◌+◌, false, List, [], ◌∷◌, ◌++◌, length, Option, Some, None}
+use Rattle.std.proofs.Common.{Result, Ok, Err, refl, sym, ap, ◌∙◌, subst, inl, inr, arith}
 use Rattle.std.specs.List.{AllByRecursion}
 use Rattle.std.specs.Str.Lines.{lines}
 use Rattle.std.proofs.lemmas.Bool.{cases_Bool}
 use Rattle.fed_types.specs.Sites.{Membership}
 use Rattle.schedule.specs.declared.command.Command.{Command}
-use Rattle.words.specs.Words.{words_of}
+use Rattle.tokens.specs.Words.{words_of}
 use Rattle.schedule.specs.Commands.{federation_of}
 use Rattle.schedule.specs.Lines.{federation_tokens}
 use Rattle.schedule.specs.Plans.{Plan, is_skipped, later_line, later_lines, line_then, plan_from}
 use Rattle.schedule.specs.Plans.{plan_after, plan_of, plan_with}
 use Rattle.schedule.specs.Schedules.{IsSkipped, NamesMembers, AllSay, IsTextOf}
 use Rattle.schedule.proofs.FederationLemmas.{federation_of-from, federation_of-says}
-use Rattle.words.proofs.GrammarLemmas.{words_of-from, HasWords-words_of}
+use Rattle.tokens.proofs.GrammarLemmas.{words_of-from, HasWords-words_of}
 use Rattle.schedule.proofs.PlanLemmas.{plan_after-skipped, plan_after-federation, plan_after-none}
 use Rattle.schedule.proofs.SaysLemmas.{is_skipped-from, IsSkipped-is_skipped, no_skip-tokens}
 use Rattle.schedule.proofs.SaysLemmas.{later_line-from, Says-later_line}
@@ -24,10 +24,9 @@ pub later_lines-from : (number : ℕ) (ls : List (List ℕ)) (said : List (Optio
     → AllSay ls said → later_lines number ls ≡ Ok said
 unfolding later_lines
 later_lines-from number [] [] say = refl
-later_lines-from number [] (x ∷ said) say = absurd say
-later_lines-from number (line ∷ ls) [] say = absurd say
 later_lines-from number (line ∷ ls) (x ∷ said) say =
-    rw (later_line-from line x say.0, later_lines-from (number + 1) ls said say.1) refl
+    rw (later_line-from line x say.0, later_lines-from (number + 1) ls said say.1)
+later_lines-from number _ _ say = absurd say
 
 -- a line and those after it that could be read
 pub both_read : (first : Option (Option Command)) (number : ℕ)
@@ -38,8 +37,7 @@ pub both_read : (first : Option (Option Command)) (number : ℕ)
 both_read None number later said is = absurd (cc is)
 both_read (Some x) number (Err fault) said is = absurd (cc is)
 both_read (Some x) number (Ok more) said is =
-    let same : x ∷ more ≡ said = cc in
-    (x, more, refl, refl, same)
+    (x, more, refl, refl, cc is)
 
 pub AllSay-later_lines : (number : ℕ) (ls : List (List ℕ)) (said : List (Option Command))
     → later_lines number ls ≡ Ok said → AllSay ls said
@@ -66,8 +64,7 @@ no_skip-members line m names =
 pub members-from : (line : List ℕ) (m : Membership) → NamesMembers line m
     → federation_of (words_of line) ≡ Some m
 members-from line m names =
-    ap federation_of (words_of-from line names.0 names.1)
-    ∙ federation_of-from names.0 m names.2
+    rw (words_of-from line names.0 names.1) (federation_of-from names.0 m names.2)
 
 pub NamesMembers-read : (line : List ℕ) (m : Membership) → federation_of (words_of line) ≡ Some m
     → NamesMembers line m
@@ -96,13 +93,10 @@ pub plan_after-from : (skipped : ℕ) (before : List (List ℕ)) (first : List �
     → AllSay later plan.lines
     → plan_after skipped (before ++ first ∷ later) ≡ Ok plan
 plan_after-from skipped [] first later plan skips count members says =
-    plan_after-federation skipped first later (no_skip-members first plan.members members)
-    ∙ ap (λ (m : Option Membership). plan_from skipped m (later_lines (skipped + 2) later))
-    (members-from first plan.members members)
-    ∙ ap (plan_from skipped (Some plan.members))
-    (later_lines-from (skipped + 2) later plan.lines says)
-    ∙ ap (λ (k : ℕ).
-    Ok (plan_with k plan.members plan.lines)) (omega (arith, count))
+    rw (plan_after-federation skipped first later (no_skip-members first plan.members members))
+    (rw (members-from first plan.members members)
+    (rw (later_lines-from (skipped + 2) later plan.lines says)
+    (ap (λ (k : ℕ). Ok (plan_with k plan.members plan.lines)) (omega arith))))
 plan_after-from skipped (line ∷ before) first later plan skips count members says =
     plan_after-skipped skipped line (before ++ first ∷ later) (is_skipped-from line skips.0)
     ∙ plan_after-from (skipped + 1) before first later plan skips.1 (omega (arith, count)) members
@@ -124,10 +118,7 @@ parts_read skipped (Some m) (Ok said) plan is =
 
 pub AreLinesOf-plan_after : (skipped : ℕ) (ls : List (List ℕ)) (plan : Plan)
     → plan_after skipped ls ≡ Ok plan → AreLinesOf ls skipped plan
-AreLinesOf-plan_after skipped [] plan is = absurd (no_lines skipped plan is)
-  where
-    no_lines : (k : ℕ) (p : Plan) → ¬ (plan_after k [] ≡ Ok p)
-    no_lines k p is = let none : Err 1 ≡ Ok p = sym (plan_after-none k) ∙ is in cc none
+AreLinesOf-plan_after skipped [] plan is = absurd (cc (plan_after-none skipped, is))
 AreLinesOf-plan_after skipped (line ∷ ls) plan is =
     elim (cases_Bool (is_skipped line)) [
       | inl skips ↦
@@ -138,7 +129,7 @@ AreLinesOf-plan_after skipped (line ∷ ls) plan is =
             before = line ∷ rest.before;
             first = rest.first;
             later = rest.later;
-            is = ap (λ (more : List (List ℕ)). line ∷ more) rest.is;
+            is = cc rest.is;
             skips = (IsSkipped-is_skipped line skips, rest.skips);
             count = omega (arith, rest.count);
             members = rest.members;
@@ -165,9 +156,9 @@ AreLinesOf-plan_after skipped (line ∷ ls) plan is =
 pub plan_of-from : (text : List ℕ) (plan : Plan) → IsTextOf text plan → plan_of text ≡ Ok plan
 unfolding plan_of
 plan_of-from text plan is =
-    ap (plan_after 0) is.is
-    ∙ plan_after-from 0 is.before is.first is.later plan is.skipped (omega (arith, is.count))
-    is.members is.says
+    rw is.is
+    (plan_after-from 0 is.before is.first is.later plan is.skipped (omega (arith, is.count))
+    is.members is.says)
 
 pub IsTextOf-plan_of : (text : List ℕ) (plan : Plan) → plan_of text ≡ Ok plan → IsTextOf text plan
 unfolding plan_of

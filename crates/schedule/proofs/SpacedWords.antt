@@ -17,16 +17,14 @@ use Rattle.schedule.specs.inner.Printed.{spaced_words}
 join-spaced : (first : List ℕ) (words : List (List ℕ))
     → join_with_byte 32 (first ∷ words) ≡ first ++ spaced_words words
 join-spaced first [] = sym (append-nil first)
-join-spaced first (word ∷ words) =
-    ap (λ (t : List ℕ). first ++ 32 ∷ t) (join-spaced word words)
+join-spaced first (word ∷ words) = rw (join-spaced word words)
 
 join-append : (first : List ℕ) (words others : List (List ℕ))
     → join_with_byte 32 (first ∷ (words ++ others))
     ≡ join_with_byte 32 (first ∷ words) ++ spaced_words others
 join-append first [] others = join-spaced first others
 join-append first (word ∷ words) others =
-    ap (λ (t : List ℕ). first ++ 32 ∷ t) (join-append word words others)
-    ∙ sym (append_assoc first (32 ∷ join_with_byte 32 (word ∷ words)) (spaced_words others))
+    rw (join-append word words others, append_assoc)
 
 -- the words of tokens, of which there is a first
 join-tokens : (first : Token) (tokens others : List Token)
@@ -64,9 +62,7 @@ pub call_line-is : (call : Call) (fate : Fate) (text a b c : List ℕ)
 call_line-is call fate text a b c first second third =
     let own = join_with_byte 32 (map printed_token (call_tokens call)) in
     let ends = spaced_words (map printed_token (fate_tokens fate)) in
-    third
-    ∙ ap (λ (t : List ℕ). t ++ 10 ∷ []) (second ∙ ap (λ (t : List ℕ). t ++ ends) first)
-    ∙ append_assoc (text ++ own) ends (10 ∷ [])
-    ∙ append_assoc text own (ends ++ 10 ∷ [])
+    rw (third, second, first)
+    (append_assoc (text ++ own) ends (10 ∷ []) ∙ append_assoc text own (ends ++ 10 ∷ [])
     ∙ ap (λ (t : List ℕ). text ++ t) (sym (append_assoc own ends (10 ∷ [])))
-    ∙ ap (λ (t : List ℕ). text ++ (t ++ 10 ∷ [])) (sym (join-call call fate))
+    ∙ ap (λ (t : List ℕ). text ++ (t ++ 10 ∷ [])) (sym (join-call call fate)))

@@ -1,7 +1,7 @@
 -- The words of tokens, one token at a time: those that are read, and the one that is printed.
-use Rattle.std.proofs.Common.{◌≡◌, ℕ, ◌^◌, ◌<◌, Bool, true, ◌&&◌, ltb, List, [], ◌∷◌}
-use Rattle.std.proofs.Common.{◌++◌, length, map, Option, Some, None, Ok, refl, sym, ap, ◌∙◌, inl}
-use Rattle.std.proofs.Common.{inr, Result, Err, cond, subst, leb, arith}
+use Rattle.std.proofs.Common.{◌≡◌, ℕ, ◌^◌, ◌<◌, Bool, true, ◌&&◌, ltb, List, [], ◌∷◌, ◌++◌, length}
+use Rattle.std.proofs.Common.{map, Option, Some, None, Ok, refl, sym, inl, inr, Result, Err, cond}
+use Rattle.std.proofs.Common.{subst, leb, arith}
 use Rattle.std.specs.Prelude.{codes}
 use Rattle.std.specs.List.{AllByRecursion}
 use Rattle.std.specs.Option.{option_map}
@@ -16,20 +16,20 @@ use Rattle.hex.proofs.HexLemmas.{decode_of-ok}
 use Rattle.percent_encoding.specs.Percent.{percent_decode}
 use Rattle.fed_types.specs.Limits.{longest_object}
 use Rattle.fed_types.specs.Slots.{IsObjectName}
-use Rattle.words.specs.Words.{text_of, bytes_of}
-use Rattle.words.specs.Slots.{object_of}
-use Rattle.words.proofs.StepLemmas.{bind_some}
-use Rattle.words.specs.Grammar.{Unescapes}
+use Rattle.tokens.specs.Words.{text_of, bytes_of}
+use Rattle.tokens.specs.Slots.{object_of}
+use Rattle.tokens.proofs.StepLemmas.{bind_some}
+use Rattle.tokens.specs.Grammar.{Unescapes}
 use Rattle.schedule.specs.Tokens.{Token, Keyword, Number, Text, Object, Hex, IsTextFor, IsHexFor}
 use Rattle.schedule.specs.Tokens.{IsWordFor, AreWordsFor, HasWord, printed_token}
 use Rattle.schedule.specs.inner.Printed.{IsWord}
-use Rattle.words.proofs.GrammarLemmas.{IsNumeral-number_in}
-use Rattle.words.proofs.TextLemmas.{percent_decode-some, text_of-utf8, text_of-not_utf8}
-use Rattle.words.proofs.UnescapeLemmas.{percent_decode-from, Unescapes-percent_decode}
-use Rattle.words.proofs.UnescapeLemmas.{decode_of-from, AreHexDigitsOf-decode_of}
+use Rattle.tokens.proofs.GrammarLemmas.{IsNumeral-number_in}
+use Rattle.tokens.proofs.TextLemmas.{percent_decode-some, text_of-utf8, text_of-not_utf8}
+use Rattle.tokens.proofs.UnescapeLemmas.{percent_decode-from, Unescapes-percent_decode}
+use Rattle.tokens.proofs.UnescapeLemmas.{decode_of-from, AreHexDigitsOf-decode_of}
 use Rattle.schedule.proofs.WordLemmas.{all_above, IsWord-computed, IsWord-decimal, IsWord-escaped}
 use Rattle.schedule.proofs.WordLemmas.{IsWord-hex_word}
-use Rattle.words.proofs.PrintedWords.{number_in-decimal, text_of-escaped}
+use Rattle.tokens.proofs.PrintedWords.{number_in-decimal, text_of-escaped}
 use Rattle.schedule.proofs.PrintedWords.{bytes_of-hex_word}
 
 -- ---- a text, a name and bytes
@@ -37,33 +37,26 @@ use Rattle.schedule.proofs.PrintedWords.{bytes_of-hex_word}
 pub text_of-from : (word text : List ℕ) → IsTextFor word text → text_of word ≡ Some text
 text_of-from word text is =
     let whole = percent_decode-from word text is.0 in
-    text_of-utf8 word (ap is_utf8 whole ∙ is_utf8-from_IsUtf8 text is.1)
-    ∙ ap (λ (t : List ℕ). Some t) whole
+    rw (text_of-utf8 word (rw whole (is_utf8-from_IsUtf8 text is.1)), whole)
 
 pub IsTextFor-text_of : (word text : List ℕ) → text_of word ≡ Some text → IsTextFor word text
 IsTextFor-text_of word text found =
     elim (cases_Bool (is_utf8 (percent_decode word))) [
       | inl utf8 ↦
-          let same : Some (percent_decode word) ≡ Some text =
-          sym (text_of-utf8 word utf8) ∙ found in
-          let whole : percent_decode word ≡ text = cc in (
+          let whole : percent_decode word ≡ text = cc (text_of-utf8 word utf8, found) in (
             subst (Unescapes word) whole (Unescapes-percent_decode word),
             subst IsUtf8 whole (IsUtf8-from_is_utf8 (percent_decode word) utf8),
           )
       | inr not_utf8 ↦
-          let none : None ≡ Some text = sym (text_of-not_utf8 word not_utf8) ∙ found in
-          absurd (cc none)
+          absurd (cc (text_of-not_utf8 word not_utf8, found))
     ]
 
 pub object_of-from : (word name : List ℕ) → IsTextFor word name × IsObjectName name
     → object_of word ≡ Some name
 unfolding object_of
 object_of-from word name is =
-    rw (
-      text_of-from word name is.0,
-      le-leb 1 (length name) is.1.0,
-      le-leb (length name) longest_object is.1.1,
-    ) refl
+    rw (text_of-from word name is.0)
+    (rw (le-leb 1 (length name) is.1.0, le-leb (length name) longest_object is.1.1))
 
 pub IsObject-object_of : (word name : List ℕ) → object_of word ≡ Some name
     → IsTextFor word name × IsObjectName name
@@ -82,26 +75,20 @@ IsObject-object_of word name found =
       subst IsObjectName fits.1 range,
     )
 
--- `-` is no hex
-not_hex : (bytes : List ℕ) → ¬ (decode_of (codes "-") ≡ Ok bytes)
-not_hex bytes is = cc is
-
 pub bytes_of-from : (word bytes : List ℕ) → IsHexFor word bytes → bytes_of word ≡ Some bytes
 unfolding bytes_of
-bytes_of-from word bytes (inl is) =
-    rw is.0 (ap (λ (b : List ℕ). Some b) (sym is.1))
+bytes_of-from word bytes (inl is) = rw (is.0, is.1)
 bytes_of-from word bytes (inr is) =
     elim (cases_Bool (bytes_eq word (codes "-"))) [
       | inl dash ↦
-          absurd (not_hex bytes
-          (ap decode_of (sym ((bytes_eq-Decides word (codes "-")).0 dash))
-          ∙ decode_of-from word bytes is))
-      | inr isnt ↦ rw isnt (ap result_ok (decode_of-from word bytes is))
+          let no_hex = rw ((bytes_eq-Decides word (codes "-")).0 dash) at is in
+          absurd (cc (decode_of-from (codes "-") bytes no_hex))
+      | inr isnt ↦ rw (isnt, decode_of-from word bytes is)
     ]
 
 -- an answer that is a value
 ok_from : {X E : Type 0} (found : Result X E) (x : X) → result_ok found ≡ Some x → found ≡ Ok x
-ok_from (Ok y) x is = let same : y ≡ x = cc in ap (λ z. Ok z) same
+ok_from (Ok y) x is = cc is
 ok_from (Err e) x is = absurd (cc is)
 
 pub IsHexFor-bytes_of : (word bytes : List ℕ) → bytes_of word ≡ Some bytes → IsHexFor word bytes
@@ -109,10 +96,9 @@ unfolding bytes_of
 IsHexFor-bytes_of word bytes found =
     elim (cases_Bool (bytes_eq word (codes "-"))) [
       | inl dash ↦
-          let none : Some [] ≡ Some bytes = rw dash at found in
-          inl ((bytes_eq-Decides word (codes "-")).0 dash, cc none)
+          inl ((bytes_eq-Decides word (codes "-")).0 dash, cc (rw dash at found))
       | inr isnt ↦
-          let some : result_ok (decode_of word) ≡ Some bytes = rw isnt at found in
+          let some = rw isnt at found in
           inr (AreHexDigitsOf-decode_of word bytes (ok_from (decode_of word) bytes some))
     ]
 
@@ -138,10 +124,9 @@ pub HaveWords-from : (words : List (List ℕ)) (tokens : List Token)
     → AllByRecursion (λ word. 0 < length word) words → AreWordsFor words tokens
     → AllByRecursion HasWord tokens
 HaveWords-from [] [] some are = tt
-HaveWords-from [] (token ∷ tokens) some are = absurd are
-HaveWords-from (word ∷ words) [] some are = absurd are
 HaveWords-from (word ∷ words) (token ∷ tokens) some are =
     (HasWord-from word token some.0 are.0, HaveWords-from words tokens some.1 are.1)
+HaveWords-from _ _ some are = absurd are
 
 -- ---- what is printed
 
@@ -184,10 +169,8 @@ pub AreWordsFor-printed : (tokens : List Token) → are_plain tokens ≡ true
     → AllByRecursion HasWord tokens → AreWordsFor (map printed_token tokens) tokens
 AreWordsFor-printed [] plain have = tt
 AreWordsFor-printed (token ∷ tokens) plain have =
-    let parts = and_parts (is_plain token) (are_plain tokens) plain in (
-      IsWordFor-printed token parts.0 have.0,
-      AreWordsFor-printed tokens parts.1 have.1,
-    )
+    let parts = and_parts (is_plain token) (are_plain tokens) plain in
+    (IsWordFor-printed token parts.0 have.0, AreWordsFor-printed tokens parts.1 have.1)
 
 pub AreWords-printed : (tokens : List Token) → are_plain tokens ≡ true
     → AllByRecursion HasWord tokens → AllByRecursion IsWord (map printed_token tokens)
@@ -202,8 +185,7 @@ pub are_plain-append : (a b : List Token) → are_plain a ≡ true → are_plain
 are_plain-append [] b first second = second
 are_plain-append (token ∷ a) b first second =
     let parts = and_parts (is_plain token) (are_plain a) first in
-    let rest = are_plain-append a b parts.1 second in
-    rw (parts.0, rest) refl
+    rw (parts.0, are_plain-append a b parts.1 second)
 
 -- ---- what is read of a word
 
@@ -225,12 +207,8 @@ pub by_keyword : {X : Type 0} (P : List ℕ → Type 0) (keyword word : List ℕ
     → cond (bytes_eq word keyword) here other ≡ Some found → P word
 by_keyword P keyword word here other found says otherwise is =
     elim (cases_Bool (bytes_eq word keyword)) [
-      | inl same ↦
-          let first : here ≡ Some found = rw same at is in
-          subst P (sym ((bytes_eq-Decides word keyword).0 same)) (says first)
-      | inr isnt ↦
-          let second : other ≡ Some found = rw isnt at is in
-          otherwise second
+      | inl same ↦ rw ((bytes_eq-Decides word keyword).0 same) (says (rw same at is))
+      | inr isnt ↦ otherwise (rw isnt at is)
     ]
 
 -- ---- a fact about lists of words, by a word for each token
@@ -243,10 +221,9 @@ OfEach (token ∷ tokens) P =
 pub of_each : (tokens : List Token) (P : List (List ℕ) → Type 0) → OfEach tokens P
     → (words : List (List ℕ)) → AreWordsFor words tokens → P words
 of_each [] P p [] are = p
-of_each [] P p (word ∷ words) are = absurd are
-of_each (token ∷ tokens) P p [] are = absurd are
 of_each (token ∷ tokens) P p (word ∷ words) are =
     of_each tokens (λ ws. P (word ∷ ws)) (p word are.0) words are.1
+of_each _ P p _ are = absurd are
 
 -- the same, where more tokens follow
 abbrev pub OfEachAnd : List Token → List Token → (List (List ℕ) → Type 0) → Type 0

@@ -1,27 +1,25 @@
 -- The weights of a federation's members: named by words, printed, and parsed again.
 use Rattle.std.proofs.Common.{◌≡◌, ℕ, ◌≤◌, Bool, true, false, cond, eqb, List, [], ◌∷◌, ◌++◌}
 use Rattle.std.proofs.Common.{length, map, replicate, Option, Some, None, refl, sym, ap, ◌∙◌}
-use Rattle.std.proofs.Common.{append_assoc, ◌+◌, ◌<◌, Bor, get_or, take, drop, slice_set, subst}
-use Rattle.std.proofs.Common.{All, arith}
+use Rattle.std.proofs.Common.{append_assoc, ◌+◌, ◌<◌, Bor, get_or, take, drop, slice_set, All}
+use Rattle.std.proofs.Common.{arith, Result, Ok, Err}
 use Rattle.std.specs.Prelude.{codes}
-use Rattle.std.specs.List.{AllByRecursion, Contains, flat_map, join_with_byte, list_all}
+use Rattle.std.specs.List.{AllByRecursion, Contains, join_with_byte, list_all}
 use Rattle.std.specs.Option.{option_map}
 use Rattle.std.specs.Fmt.{decimal}
 use Rattle.std.proofs.lemmas.Bool.{and_parts, eqb-true, eq-eqb, ne_eqb}
 use Rattle.std.proofs.lemmas.List.{append-nil, length-map, length-set, length-take, take_more}
-use Rattle.std.proofs.lemmas.List.{take_more_set}
-use Rattle.std.proofs.lemmas.List.{at_drop_all, at_drop_more, flat_map_more}
-use Rattle.std.proofs.lemmas.List.Elements.{All-head, All-tail, All-nil, All-push, All-contains}
+use Rattle.std.proofs.lemmas.List.{take_more_set, at_drop_all, at_drop_more, flat_map_more}
+use Rattle.std.proofs.lemmas.List.Elements.{All-head, All-tail, All-push, All-contains}
 use Rattle.fed_types.specs.Limits.{greatest_weight}
 use Rattle.fed_types.specs.Sites.{IsWeight, AreWeights, IsMemberCount, Membership, count_of}
 use Rattle.std.specs.Result.{result_ok, IsOk, IfOk}
-use Rattle.std.proofs.Common.{Result, Ok, Err}
-use Rattle.words.specs.Words.{number_in, ◌>>=◌}
+use Rattle.tokens.specs.Words.{number_in, ◌>>=◌}
 use Rattle.schedule.specs.Commands.{weights_in, weights_of}
 use Rattle.schedule.specs.Texts.{printed_weights, federation_words, federation_line}
 use Rattle.schedule.specs.inner.Printed.{IsWord, spaced_weights}
 use Rattle.schedule.proofs.WordLemmas.{IsWord-decimal}
-use Rattle.words.proofs.PrintedWords.{number_in-decimal}
+use Rattle.tokens.proofs.PrintedWords.{number_in-decimal}
 
 -- a word that names a weight, after those whose weights were read
 pub weights_in-more : (front : List ℕ) (word : List ℕ) (words : List (List ℕ)) (w : ℕ)
@@ -35,19 +33,19 @@ weights_in-more front word words w is = rw is (go (weights_in words))
         → option_map (λ ws. front ++ ws) (rest >>= (λ ws. Some (w ∷ ws)))
         ≡ option_map (λ ws. (front ++ w ∷ []) ++ ws) rest
     go None = refl
-    go (Some ws) = ap (λ (vs : List ℕ). Some vs) (sym (append_assoc front (w ∷ []) ws))
+    go (Some ws) = rw append_assoc
 
 -- a word that names none
 pub weights_in-fault : (front : List ℕ) (word : List ℕ) (words : List (List ℕ))
     → number_in 1 greatest_weight word ≡ None
     → option_map (λ ws. front ++ ws) (weights_in (word ∷ words)) ≡ None
 unfolding weights_in
-weights_in-fault front word words is = rw is refl
+weights_in-fault front word words is = rw is
 
 -- no word more
 pub weights_in-all : (front : List ℕ) → option_map (λ ws. front ++ ws) (weights_in []) ≡ Some front
 unfolding weights_in
-weights_in-all front = ap (λ (ws : List ℕ). Some ws) (append-nil front)
+weights_in-all front = rw append-nil
 
 -- nothing was read yet
 pub weights_in-none : (found : Option (List ℕ)) → found ≡ option_map (λ ws. [] ++ ws) found
@@ -60,36 +58,26 @@ unfolding weights_in
 weights_in-printed [] are = refl
 weights_in-printed (w ∷ ws) are =
     let one = All-head IsWeight w ws are in
-    rw (
-      number_in-decimal 1 greatest_weight w one.0 one.1 (omega arith),
-      weights_in-printed ws (All-tail IsWeight w ws are),
-    ) refl
+    rw (number_in-decimal 1 greatest_weight w one.0 one.1 (omega arith))
+    (rw (weights_in-printed ws (All-tail IsWeight w ws are)))
 
 -- weights that are all 1
 ones : (ws : List ℕ) → list_all (λ w. eqb w 1) ws ≡ true → replicate (length ws) 1 ≡ ws
 ones [] h = refl
 ones (w ∷ ws) h =
     let parts = and_parts (eqb w 1) (list_all (λ v. eqb v 1) ws) h in
-    ap (λ (v : ℕ). v ∷ replicate (length ws) 1) (sym (eqb-true w 1 parts.0))
-    ∙ ap (λ (vs : List ℕ). w ∷ vs) (ones ws parts.1)
-
--- as many words as members
-chosen : (n : ℕ) (words : List (List ℕ)) → eqb (length words) 0 ≡ false
-    → eqb (length words) n ≡ true → weights_of n words ≡ weights_in words
-unfolding weights_of
-chosen n words some same = rw (some, same) refl
+    cc (eqb-true w 1 parts.0, ones ws parts.1)
 
 -- each weight has a word
 weights_of-named : (ws : List ℕ) → list_all (λ w. eqb w 1) ws ≡ false → All IsWeight ws
     → weights_of (length ws) (map decimal ws) ≡ Some ws
+unfolding weights_of
 weights_of-named [] h are = absurd (cc h)
 weights_of-named (w ∷ ws) h are =
-    let count : length (map decimal (w ∷ ws)) ≡ length (w ∷ ws) = length-map (w ∷ ws) decimal in
-    let some : eqb (length (map decimal (w ∷ ws))) 0 ≡ false =
-    ne_eqb (length (map decimal (w ∷ ws))) 0 (λ e. omega (arith, e, count)) in
-    let same : eqb (length (map decimal (w ∷ ws))) (length (w ∷ ws)) ≡ true =
-    eq-eqb (length (map decimal (w ∷ ws))) (length (w ∷ ws)) count in
-    chosen (length (w ∷ ws)) (map decimal (w ∷ ws)) some same ∙ weights_in-printed (w ∷ ws) are
+    let words = map decimal (w ∷ ws) in
+    let count : length words ≡ length (w ∷ ws) = length-map (w ∷ ws) decimal in
+    let some = ne_eqb (length words) 0 (λ e. omega (arith, e)) in
+    rw (some, eq-eqb (length words) (length (w ∷ ws)) count) (weights_in-printed (w ∷ ws) are)
 
 -- what is printed of weights names them
 pub weights_of-printed : (ws : List ℕ) → All IsWeight ws
@@ -99,7 +87,7 @@ weights_of-printed ws are = go (list_all (λ w. eqb w 1) ws) refl
   where
     go : (all : Bool) → list_all (λ w. eqb w 1) ws ≡ all
         → weights_of (length ws) (map decimal (cond all [] ws)) ≡ Some ws
-    go true h = ap (λ (vs : List ℕ). Some vs) (ones ws h)
+    go true h = rw (ones ws h)
     go false h = weights_of-named ws h are
 
 -- each is a word
@@ -121,8 +109,7 @@ IsWord-weights ws are = go (list_all (λ w. eqb w 1) ws)
 pub join-weights : (first : List ℕ) (ws : List ℕ)
     → join_with_byte 32 (first ∷ map decimal ws) ≡ first ++ spaced_weights ws
 join-weights first [] = sym (append-nil first)
-join-weights first (w ∷ ws) =
-    ap (λ (t : List ℕ). first ++ 32 ∷ t) (join-weights (decimal w) ws)
+join-weights first (w ∷ ws) = rw (join-weights (decimal w) ws)
 
 -- what is printed of weights that are all 1, and of others
 pub spaced_weights-none : (text ws : List ℕ) → list_all (λ w. eqb w 1) ws ≡ true
@@ -131,15 +118,15 @@ spaced_weights-none text ws h = rw h (sym (append-nil text))
 
 pub printed_weights-all : (ws : List ℕ) → list_all (λ w. eqb w 1) ws ≡ false
     → printed_weights ws ≡ ws
-printed_weights-all ws h = rw h refl
+printed_weights-all ws h = rw h
 
 -- one more is printed
 pub spaced_weights-more : (ws : List ℕ) (place : ℕ) → place < length ws
     → spaced_weights (take place ws) ++ 32 ∷ decimal (get_or ws place 0)
     ≡ spaced_weights (take (place + 1) ws)
 spaced_weights-more ws place within =
-    flat_map_more (λ v. 32 ∷ decimal v) [] (take place ws) (get_or ws place 0)
-    ∙ ap (flat_map (λ v. 32 ∷ decimal v)) (sym (take_more ws place 0 within))
+    rw (take_more ws place 0 within)
+    (flat_map_more (λ v. 32 ∷ decimal v) [] (take place ws) (get_or ws place 0))
 
 -- the line of a federation, from its parts
 pub federation_line-is : (m : Membership) (text a b c : List ℕ)
@@ -148,20 +135,7 @@ pub federation_line-is : (m : Membership) (text a b c : List ℕ)
     → c ≡ text ++ federation_line m
 unfolding federation_words
 federation_line-is m text a b c first second third =
-    let f = decimal m.federation in
-    let n = decimal (count_of m) in
-    let ws = spaced_weights (printed_weights m.weights) in
-    let named = codes "federation " ++ (f ++ 32 ∷ n) in
-    let line : named ++ ws ≡ join_with_byte 32 (federation_words m) =
-    ap (λ (t : List ℕ). codes "federation " ++ t)
-    (append_assoc f (32 ∷ n) ws
-    ∙ ap (λ (t : List ℕ). f ++ 32 ∷ t) (sym (join-weights n (printed_weights m.weights)))) in
-    third
-    ∙ ap (λ (t : List ℕ). t ++ 10 ∷ []) (second ∙ ap (λ (t : List ℕ). t ++ ws) first)
-    ∙ append_assoc (text ++ named) ws (10 ∷ [])
-    ∙ append_assoc text named (ws ++ 10 ∷ [])
-    ∙ ap (λ (t : List ℕ). text ++ t) (sym (append_assoc named ws (10 ∷ [])))
-    ∙ ap (λ (t : List ℕ). text ++ (t ++ 10 ∷ [])) line
+    rw (third, second, first) (simp (join-weights, append_assoc))
 
 -- ---- words read one after another
 
@@ -173,15 +147,6 @@ pub record AreSoFar (words : List (Bor (List ℕ))) (place : ℕ) (weights : Lis
   pub so_far : weights_in (map (λ word. word.now) words)
       ≡ option_map (λ ws. take place weights ++ ws)
       (weights_in (map (λ word. word.now) (drop place words)))
-
-pub AreSoFar-none : (words : List (Bor (List ℕ))) (weights : List ℕ) → length weights ≡ 63
-    → AreSoFar words 0 weights
-AreSoFar-none words weights room = record {
-  room = room;
-  within = omega arith;
-  each = All-nil IsWeight;
-  so_far = weights_in-none (weights_in (map (λ word. word.now) words));
-}
 
 -- what is left of the words at one of them
 rest_at : (words : List (Bor (List ℕ))) (place : ℕ) (d : Bor (List ℕ)) → place < length words
@@ -200,15 +165,10 @@ AreSoFar-more words place weights d w within most found weight are =
     record {
       room = length-set weights place w ∙ are.room;
       within = omega (arith, within);
-      each = subst (All IsWeight) (sym more)
-          (All-push IsWeight (take place weights) w are.each weight);
-      so_far = are.so_far
-          ∙ ap (λ ls. option_map (λ ws. take place weights ++ ws) (weights_in ls))
-          (rest_at words place d within)
-          ∙ weights_in-more (take place weights) (get_or words place d).now
-          (map (λ v. v.now) (drop (place + 1) words)) w found
-          ∙ ap (λ front. option_map (λ ws. front ++ ws)
-          (weights_in (map (λ v. v.now) (drop (place + 1) words)))) (sym more);
+      each = rw more (All-push IsWeight (take place weights) w are.each weight);
+      so_far = rw (more, are.so_far, rest_at words place d within)
+          (weights_in-more (take place weights) (get_or words place d).now
+          (map (λ v. v.now) (drop (place + 1) words)) w found);
     }
 
 pub AreSoFar-fault : (words : List (Bor (List ℕ))) (place : ℕ) (weights : List ℕ)
@@ -216,11 +176,9 @@ pub AreSoFar-fault : (words : List (Bor (List ℕ))) (place : ℕ) (weights : Li
     → number_in 1 greatest_weight (get_or words place d).now ≡ None → AreSoFar words place weights
     → weights_in (map (λ v. v.now) words) ≡ None
 AreSoFar-fault words place weights d within found are =
-    are.so_far
-    ∙ ap (λ ls. option_map (λ ws. take place weights ++ ws) (weights_in ls))
-    (rest_at words place d within)
-    ∙ weights_in-fault (take place weights) (get_or words place d).now
-    (map (λ v. v.now) (drop (place + 1) words)) found
+    rw (are.so_far, rest_at words place d within)
+    (weights_in-fault (take place weights) (get_or words place d).now
+    (map (λ v. v.now) (drop (place + 1) words)) found)
 
 -- no word is left
 all_read : (words : List (Bor (List ℕ))) (place : ℕ) (weights : List ℕ) → length words ≤ place
@@ -244,18 +202,15 @@ pub AreSoFar-weights : (words : List (Bor (List ℕ))) (place : ℕ) (weights : 
 AreSoFar-weights words place weights count past are =
     let all : length (take (length words) weights) ≡ length words =
     length-take (length words) weights ∙ omega (arith, count.1, are.room) in (
-      (omega (arith, all, count.0), omega (arith, all, count.1)),
-      subst (λ (n : ℕ). All IsWeight (take n weights)) (all_read words place weights past are)
-          are.each,
+      (omega (arith, count.0), omega (arith, count.1)),
+      rw (← all_read words place weights past are) are.each,
     )
 
 -- members that are made
 pub made-some : {E : Type 0} (made : Result Membership E) (m : Membership) → IsOk made
     → IfOk made (λ x. x ≡ m) → result_ok made ≡ Some m
-made-some (Ok x) m ok is = ap (λ (y : Membership). Some y) is
+made-some (Ok x) m ok is = rw is
 made-some (Err e) m ok is = absurd (cc ok)
 
 pub no_zero : (ws : List ℕ) → All IsWeight ws → ¬ Contains {X = ℕ} ws 0
-no_zero ws are has =
-    let least = (All-contains IsWeight ws 0 are has).0 in
-    absurd (omega (arith, least))
+no_zero ws are has = omega (arith, (All-contains IsWeight ws 0 are has).0)

@@ -1,16 +1,16 @@
 -- The words that are printed: each has a byte, and none has a space or a control.
-use Rattle.std.proofs.Common.{◌≡◌, ℕ, suc, ◌+◌, ◌/◌, ◌%◌, ◌^◌, ◌<◌, Bool, true, false, ◌&&◌, ltb}
-use Rattle.std.proofs.Common.{eqb, List, [], ◌∷◌, length, get_or, All, refl, arith}
+use Rattle.std.proofs.Common.{◌≡◌, ℕ, suc, ◌+◌, ◌/◌, ◌%◌, ◌^◌, ◌<◌, Bool, true, ◌&&◌, ltb, List, []}
+use Rattle.std.proofs.Common.{◌∷◌, length, get_or, All, refl, arith}
 use Rattle.std.specs.Prelude.{codes}
 use Rattle.std.specs.Fmt.{decimal}
 use Rattle.std.proofs.lemmas.Bool.{and_parts, ltb-true, ne_eqb, agree_below_at}
 use Rattle.std.proofs.lemmas.Fmt.{decimal_nonempty, decimal_by_steps}
 use Rattle.std.proofs.lemmas.List.Elements.{All-nil, All-cons, All-push}
 use Rattle.hex.specs.Hex.{lower_digits, encode_with, encode_lower, IsBytes}
-use Rattle.words.specs.Escapes.{escaped_text}
+use Rattle.tokens.specs.Escapes.{escaped_text}
 use Rattle.schedule.specs.Tokens.{hex_word}
 use Rattle.schedule.specs.inner.Printed.{IsWord}
-use Rattle.words.proofs.EscapeLemmas.{IsAbove, All-escaped, length-escaped}
+use Rattle.tokens.proofs.EscapeLemmas.{IsAbove, All-escaped, length-escaped}
 
 -- the same as a test, which computes on a word that is written out
 abbrev pub all_above : List ℕ → Bool
@@ -61,9 +61,7 @@ All-encode_lower (b ∷ bs) fits =
 
 -- some bytes are no `-`
 pub hex_word-some : (bytes : List ℕ) → 0 < length bytes → hex_word bytes ≡ encode_lower bytes
-hex_word-some bytes some =
-    let is : eqb (length bytes) 0 ≡ false = ne_eqb (length bytes) 0 (λ e. omega arith) in
-    rw is refl
+hex_word-some bytes some = rw (ne_eqb (length bytes) 0 (λ e. omega arith))
 
 length-encode_lower : (bytes : List ℕ) → 0 < length bytes → 0 < length (encode_lower bytes)
 unfolding encode_with

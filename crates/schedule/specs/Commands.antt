@@ -15,8 +15,8 @@ use Rattle.schedule.specs.declared.fate.DeviceCall.TheVariants.{Append, Sync}
 use Rattle.schedule.specs.declared.fate.Fate.{Fate}
 use Rattle.schedule.specs.declared.fate.Fate.TheVariants.{Whole, StopsIn, StopsAfter, FailsIn}
 use Rattle.schedule.specs.Limits.{greatest_site, greatest_tree, greatest_amount}
-use Rattle.words.specs.Slots.{slot_of}
-use Rattle.words.specs.Words.{◌>>=◌, number_in, text_of, bytes_of}
+use Rattle.tokens.specs.Slots.{slot_of}
+use Rattle.tokens.specs.Words.{◌>>=◌, number_in, text_of, bytes_of}
 
 -- S
 abbrev pub site_of : List ℕ → Option ℕ

@@ -6,7 +6,7 @@ use Rattle.std.specs.Option.{option_map}
 use Rattle.std.specs.Str.Lines.{lines}
 use Rattle.fed_types.specs.Sites.{Membership}
 use Rattle.schedule.specs.declared.command.Command.{Command}
-use Rattle.words.specs.Words.{words_of}
+use Rattle.tokens.specs.Words.{words_of}
 use Rattle.schedule.specs.Commands.{federation_of, command_of}
 
 -- a schedule: the skipped lines before its first command, the members that this one names, and each

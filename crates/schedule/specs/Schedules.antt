@@ -7,7 +7,7 @@ use Rattle.std.specs.Str.Lines.{lines}
 use Rattle.fed_types.specs.Sites.{Membership}
 use Rattle.fed_types.specs.Values.{IsMembership}
 use Rattle.schedule.specs.declared.command.Command.{Command}
-use Rattle.words.specs.Grammar.{HasWords}
+use Rattle.tokens.specs.Grammar.{HasWords}
 use Rattle.schedule.specs.Lines.{command_tokens, AreWordsForMembers}
 use Rattle.schedule.specs.Plans.{Plan}
 use Rattle.schedule.specs.Tokens.{AreWordsFor, HasWord}

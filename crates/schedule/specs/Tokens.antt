@@ -6,8 +6,8 @@ use Rattle.std.specs.Fmt.{decimal}
 use Rattle.std.specs.Str.{IsUtf8}
 use Rattle.hex.specs.Hex.{encode_lower, IsBytes}
 use Rattle.fed_types.specs.Slots.{IsObjectName}
-use Rattle.words.specs.Escapes.{escaped_text}
-use Rattle.words.specs.Grammar.{IsNumeral, AreHexDigitsOf, Unescapes}
+use Rattle.tokens.specs.Escapes.{escaped_text}
+use Rattle.tokens.specs.Grammar.{IsNumeral, AreHexDigitsOf, Unescapes}
 
 -- a token: this very word; a number from the first to the second, of the third as its value; a
 -- file's path, or an object's name, of these bytes; or these bytes in hex digits

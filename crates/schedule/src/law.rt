@@ -10,7 +10,7 @@ ghost use Rattle.schedule.specs.Plans.{Plan, plan_of};
 ghost use Rattle.schedule.specs.Schedules.{IsTextOf, HasFault, IsPlan};
 ghost use Rattle.schedule.specs.Texts.{schedule_text};
 ghost use Rattle.schedule.specs.Tokens.{IsTextFor, IsHexFor, AreWordsFor};
-ghost use Rattle.words.specs.Words.{text_of, bytes_of};
+ghost use Rattle.tokens.specs.Words.{text_of, bytes_of};
 
 /// `text_of` and `bytes_of` say which text a word is, once its escapes are undone, and which bytes
 /// its hex digits are.

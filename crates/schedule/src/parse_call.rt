@@ -7,7 +7,7 @@ use crate::command::Command;
 use crate::parse_fate::parse_fate;
 use crate::value::{parse_amount, parse_site, parse_tree_no};
 use std::alloc::{AllocError, Global};
-use words::parse_slot;
+use tokens::parse_slot;
 
 // The command for a call and for the fate that the words after the call's own name.
 #[tactic(auto, unfolding(crate::specs::Commands::call_command))]

@@ -7,7 +7,7 @@ use crate::parse_call::{parse_ask, parse_deliver, parse_deposit, parse_propose, 
 use crate::tree_no::TreeNo;
 use crate::value::{parse_amount, parse_bytes, parse_path, parse_site, parse_tree_no};
 use std::alloc::{AllocError, Global};
-use words::parse_slot;
+use tokens::parse_slot;
 
 /// The command of a line's words, if they are one's.
 #[tactic(auto, unfolding(crate::specs::Commands::command_of))]

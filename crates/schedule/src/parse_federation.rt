@@ -5,7 +5,7 @@ ghost use Rattle.schedule.specs.Commands.{federation_of, weights_in, weights_of}
 
 use crate::value::parse_weight;
 use fed_types::{MOST_MEMBERS, Members};
-use words::parse_number;
+use tokens::parse_number;
 
 // Room for the weights of as many members as a federation can have.
 const ROOM: usize = 63;

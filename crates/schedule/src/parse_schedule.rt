@@ -1,7 +1,7 @@
 ghost use Rattle.std.specs.Prelude.{◌≡◌, ◌≤◌, ◌<◌, ◌+◌, ◌^◌, length, map, vec_len, Ok, Err, IfOk};
 ghost use Rattle.std.specs.Prelude.{IfErr};
 ghost use Rattle.std.specs.Str.Lines.{lines};
-ghost use Rattle.words.specs.Words.{words_of};
+ghost use Rattle.tokens.specs.Words.{words_of};
 ghost use Rattle.schedule.specs.Plans.{is_skipped, later_line, later_lines, plan_of};
 ghost use Rattle.schedule.specs.Faults.{IsOrMemory};
 
@@ -11,7 +11,7 @@ use crate::parse_command::parse_command;
 use crate::parse_federation::parse_federation;
 use crate::plan::Schedule;
 use std::alloc::{AllocError, Global};
-use words::{first_line, split_words};
+use tokens::{first_line, split_words};
 
 /// The schedule of a text, or the number of its first line at fault. `Memory` is answered only if
 /// an allocation failed.

@@ -1,7 +1,7 @@
 ghost use Rattle.std.specs.Prelude.{◌≡◌, map};
 ghost use Rattle.std.specs.List.{join_with_byte};
 ghost use Rattle.schedule.specs.Lines.{slot_tokens, call_tokens, fate_tokens, device_token};
-ghost use Rattle.words.specs.Pushes.{Pushes};
+ghost use Rattle.tokens.specs.Pushes.{Pushes};
 ghost use Rattle.schedule.specs.Tokens.{printed_token};
 ghost use Rattle.schedule.specs.inner.Printed.{spaced_words};
 
@@ -9,7 +9,7 @@ use crate::call::Call;
 use crate::fate::{DeviceCall, Fate};
 use fed_types::Slot;
 use std::alloc::AllocError;
-use words::push_escaped;
+use tokens::push_escaped;
 
 /// Appends the words of a call, one space between them.
 pub(crate) fn push_call(text: &mut String, call: &Call) -> Result<(), AllocError>

@@ -1,6 +1,6 @@
 ghost use Rattle.schedule.specs.declared.command.Command.TheVariants.{File, Query, Raw};
 ghost use Rattle.schedule.specs.declared.command.Command.TheVariants as commands;
-ghost use Rattle.words.specs.Pushes.{Pushes};
+ghost use Rattle.tokens.specs.Pushes.{Pushes};
 ghost use Rattle.schedule.specs.Texts.{printed_command};
 ghost use Rattle.schedule.specs.Tokens.{hex_word};
 
@@ -14,7 +14,7 @@ use crate::print_call::{push_call, push_fate, push_slot};
 use crate::tree_no::TreeNo;
 use fed_types::Slot;
 use std::alloc::{AllocError, Global};
-use words::push_escaped;
+use tokens::push_escaped;
 
 /// Appends a command's line.
 pub(crate) fn push_command(

@@ -2,7 +2,7 @@ ghost use Rattle.std.specs.Prelude.{◌≡◌, ◌==◌, [], ◌∷◌, codes};
 ghost use Rattle.std.specs.Fmt.{decimal};
 ghost use Rattle.std.specs.List.{join_with_byte, list_all};
 ghost use Rattle.fed_types.specs.Sites.{count_of};
-ghost use Rattle.words.specs.Pushes.{Pushes};
+ghost use Rattle.tokens.specs.Pushes.{Pushes};
 ghost use Rattle.schedule.specs.Texts.{federation_line, printed_weights};
 ghost use Rattle.schedule.specs.inner.Printed.{spaced_weights};
 

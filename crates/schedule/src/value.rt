@@ -1,7 +1,7 @@
 ghost use Rattle.std.specs.Prelude.{◌≡◌, ◌≤◌, ◌<◌, length, string_bytes, IfOk, IfSome, option_map};
 ghost use Rattle.fed_types.specs.Limits.{greatest_weight};
 ghost use Rattle.fed_types.specs.Sites.{IsWeight};
-ghost use Rattle.words.specs.Words.{number_in, text_of, bytes_of};
+ghost use Rattle.tokens.specs.Words.{number_in, text_of, bytes_of};
 ghost use Rattle.schedule.specs.Commands.{site_of, tree_of, amount_of};
 
 use crate::file_path::FilePath;
@@ -10,7 +10,7 @@ use crate::tree_no::TreeNo;
 use fed_types::GREATEST_WEIGHT;
 use hex::FromHexError;
 use std::alloc::{AllocError, Global};
-use words::{parse_number, parse_text};
+use tokens::{parse_number, parse_text};
 
 /// The number of a site, a member or not.
 pub(crate) fn parse_site(word: &[u8]) -> Option<u8>
@@ -53,7 +53,7 @@ pub(crate) fn parse_path(alloc: Global, word: &[u8]) -> Result<Option<FilePath>,
 }
 
 /// Bytes, by their hex digits.
-#[tactic(auto, unfolding(words::specs::Words::bytes_of))]
+#[tactic(auto, unfolding(tokens::specs::Words::bytes_of))]
 pub(crate) fn parse_bytes(alloc: Global, word: &[u8]) -> Result<Option<HexBytes>, AllocError>
     ensures { IfOk result (λ bytes. bytes ≡ bytes_of word.now) }
 {

@@ -1,20 +1,17 @@
 -- Three sites that serve agree; one is killed as it votes; a vote is said again.
-use Rattle.std.proofs.Common.{ℕ, zero, suc, ◌≡◌, ◌≤◌, refl, sym, ap, subst, ◌∙◌}
-use Rattle.std.proofs.Common.{List, [], ◌∷◌, ◌++◌, None, Some, arith}
-use Rattle.std.specs.Prelude.{Result, Ok, Err}
+use Rattle.std.proofs.Common.{ℕ, zero, suc, ◌≡◌, ◌≤◌, refl, List, [], ◌∷◌, ◌++◌, None, Some, arith}
+use Rattle.std.specs.Prelude.{Ok}
 use Rattle.std.specs.List.{slice_get}
 use Rattle.fed_types.specs.declared.bag_id.BagId.{BagId}
 use Rattle.fed_types.specs.Lists.{Has, here, there, is_in}
 use Rattle.fed_types.specs.Quorums.{quorums_of}
 use Rattle.fed_types.specs.Sites.{members_of, sites_to}
 use Rattle.fed_types.specs.Slots.{same_slot}
-use Rattle.bag_check.specs.declared.fault.BagFault.{BagFault}
 use Rattle.bag_check.specs.Check.{check_of}
 use Rattle.records.specs.declared.record.Record.{Record}
 use Rattle.records.specs.Records.{IsRecord, AreRecords}
 use Rattle.records.specs.SlotStates.{known_of, used_of, deposit_of}
 use Rattle.dgram.specs.declared.body.Body.TheVariants.{Prepare}
-use Rattle.dgram.specs.declared.message.Message.{Message}
 use Rattle.dgram.specs.Encoding.{datagram_of}
 use Rattle.dgram.specs.Heard.{bodies_of, floor_of, promises_for, promisers, priors, voters_for}
 use Rattle.learner.specs.declared.row.Row.TheVariants as rows
@@ -24,49 +21,39 @@ use Rattle.site.specs.declared.answer.Line.TheVariants as site_lines
 use Rattle.site.specs.Calls as calls
 use Rattle.site.specs.Calls.{effect_of, on_deposit, on_propose}
 use Rattle.site.specs.Effects.{Effect, to_each}
-use Rattle.site_tables.specs.Contents.{Represents}
-use Rattle.udp_site.specs.Requests as requests
-use Rattle.udp_site.specs.Traffic.{From}
-use Rattle.udp_site.specs.Traffic.{Nothing}
+use Rattle.site.specs.Contents.{Represents, deposits_of}
+use Rattle.udp_site.specs.Traffic.{From, Nothing}
 use Rattle.udp_site.specs.Replies.{deposit_answer}
 use Rattle.udp_site.specs.Rounds.{next_waiting}
-use Rattle.udp_site.specs.Turns.{Serving, Done, turn_of, comes_of, notices_of, deposit_replies}
-use Rattle.udp_site.specs.Turns.{posts_of, proposal_notices}
+use Rattle.udp_site.specs.Turns.{Serving, Done, turn_of, notices_of, deposit_replies, posts_of}
+use Rattle.udp_site.specs.Turns.{proposal_notices}
 use Rattle.site.specs.declared.answer.Answer.{Answer}
-use Rattle.site.specs.declared.fault.SiteFault.{SiteFault}
-use Rattle.site_tables.specs.Contents.{deposits_of}
 use Rattle.fed_types.specs.Laws.Sites.{sites_to_has}
 use Rattle.serving_law.specs.Disks.{Disk, Holds, bytes_at, journal, device}
 use Rattle.serving_law.specs.Federations.{Down, Federation, Step, Happening, Turns, Dies}
-use Rattle.serving_law.specs.Federations.{new_federation, after, after_all}
+use Rattle.serving_law.specs.Federations.{new_federation, after, after_all, Serves}
 use Rattle.serving_law.specs.Rules.{MayAll}
 use Rattle.serving_law.proofs.Answers.{AreMessages, seals, answer_of}
 use Rattle.serving_law.proofs.DiskCalls.{owner, serving, called, no_folders}
 use Rattle.serving_law.proofs.DiskJournals.{says}
-use Rattle.serving_law.proofs.Agreement.{three_are, addresses, step_of, may_turn, takes, serves}
+use Rattle.serving_law.proofs.Agreement.{three_are, addresses, step_of, may_turn, takes, serves, m}
+use Rattle.serving_law.proofs.Agreement.{r, to_all, Hearing}
 use Rattle.serving_law.specs.Examples.{Request}
 use Rattle.serving_law.specs.ExamplesAgreed.{three, a, ballot, Agree, DiesVoting, says_vote}
 use Rattle.serving_law.specs.ExamplesAgreed.{CountsOnce, ThreeSitesAgree, KilledInAVote}
-use Rattle.serving_law.specs.ExamplesAgreed.{ARepeatedVote}
+use Rattle.serving_law.specs.ExamplesAgreed.{ARepeatedVote, PrintsKnown}
 use Rattle.serving_law.specs.Reports.{Prints}
 use Rattle.lines.specs.declared.notice.Notice.TheVariants.{Learned}
 use Rattle.records.specs.declared.owner.Owner.{Owner}
-use Rattle.serving_law.proofs.Agreement.{m, r, to_all}
-use Rattle.serving_law.proofs.Sites.{volatile_of, issued}
-use Rattle.serving_law.proofs.Sites.{stands_idle, stands_issued}
+use Rattle.serving_law.proofs.Sites.{volatile_of, issued, stands_idle, stands_issued}
 use Rattle.serving_law.proofs.Tables.{Rows, records_of, tables}
-use Rattle.records.specs.Records.{IsRecord}
-use Rattle.serving_law.specs.Federations.{Serves}
-use Rattle.serving_law.specs.ExamplesAgreed.{PrintsKnown}
-use Rattle.serving_law.proofs.Agreement.{Hearing}
-use Rattle.serving_law.proofs.AgreedMessages.{is_prepare, is_d, is_r, is_p, is_v}
+use Rattle.serving_law.proofs.AgreedMessages.{is_prepare, is_d, is_r, is_p, is_v, deposited}
+use Rattle.serving_law.proofs.AgreedMessages.{proposed, promised, voted}
 use Rattle.serving_law.proofs.AgreedTurns.{Turn, Asked1, Asked2, Promised1, Promised2, Votes1}
-use Rattle.serving_law.proofs.AgreedTurns.{Votes2}
-use Rattle.serving_law.proofs.AgreedTurns.{Hears11, Hears12, Hears21, Hears22, Hears31, Hears32}
-use Rattle.serving_law.proofs.AgreedTurns.{HearsAgain, HearsOther, HearsLate, hearing, fits}
-use Rattle.serving_law.proofs.AgreedTurns.{answers, stands, unheard, own_rows}
+use Rattle.serving_law.proofs.AgreedTurns.{Votes2, Hears11, Hears12, Hears21, Hears22, Hears31}
+use Rattle.serving_law.proofs.AgreedTurns.{Hears32, HearsAgain, HearsOther, HearsLate, hearing}
+use Rattle.serving_law.proofs.AgreedTurns.{fits, answers, stands, unheard, own_rows}
 use Rattle.serving_law.proofs.NewSites.{starts_new, may_start}
-use Rattle.serving_law.proofs.AgreedMessages.{deposited, proposed, promised, voted}
 
 -- by its place, counted from 0
 pub at_index : {X : Type 0} (k : ℕ) (xs : List X) (x : X) → slice_get xs k ≡ Some x → Has x xs
@@ -97,9 +84,7 @@ module _ (bag : BagId) (request : Request 7 a bag) where
 
   registers : effect_of (quorums_of three) 1 [] (volatile_of [] None)
       (calls.Deposits a (check_of request.facts)) ≡ registering
-  registers =
-      ap (λ (c : Result BagId BagFault). on_deposit [] (volatile_of [] None) a c) request.checked
-      ∙ on_deposit_is
+  registers = rw request.checked on_deposit_is
 
   deposited_stands : Represents (tables a three 1 none_heard) (records_of a (deposited bag ∷ []))
       (volatile_of [] None) nothing
@@ -116,8 +101,7 @@ module _ (bag : BagId) (request : Request 7 a bag) where
   abbrev pub has_deposit : Serving Disk
   has_deposit =
       serving three three_are 1 (r (deposited bag) ∷ []) (tables a three 1 none_heard)
-      (volatile_of [] None)
-      0 0
+      (volatile_of [] None) 0 0
 
   abbrev deposit_done : Done
   deposit_done = record {
@@ -136,8 +120,7 @@ module _ (bag : BagId) (request : Request 7 a bag) where
   pub deposits : turn_of device addresses (Some deposit_step.folders) asked
       (From request.address request.bytes) deposit_done has_deposit
   deposits =
-      subst (λ (q : requests.Request). comes_of device addresses (Some deposit_step.folders) asked q
-      deposit_done has_deposit) (sym request.asked) (
+      rw request.asked (
         Ok request.facts,
         refl,
         (
@@ -159,15 +142,13 @@ module _ (bag : BagId) (request : Request 7 a bag) where
   }
 
   pub proposes_it : effect_of (quorums_of three) 1 (records_of a (deposited bag ∷ []))
-      (volatile_of [] None)
-      (calls.Proposes a) ≡ preparing
+      (volatile_of [] None) (calls.Proposes a) ≡ preparing
   unfolding on_propose known_of deposit_of next_ballot used_of floor_of bodies_of to_each sites_to
       same_slot
   proposes_it = refl
 
   prepared_stands : Represents (tables a three 1 none_promised)
-      (records_of a (deposited bag ∷ proposed bag ∷ [])) (volatile_of [] (Some issued))
-      nothing
+      (records_of a (deposited bag ∷ proposed bag ∷ [])) (volatile_of [] (Some issued)) nothing
   unfolding known_of used_of deposit_of voters_for bodies_of floor_of is_in same_slot gathered
       promises_for promisers priors highest_prior
   prepared_stands =
@@ -199,21 +180,16 @@ module _ (bag : BagId) (request : Request 7 a bag) where
     next = has_proposed;
   }
 
-  not_refused : (fault : SiteFault) → preparing.says ≡ Err fault → ⊥
-  not_refused fault e = absurd (cc e)
-
   pub proposes : turn_of device addresses (Some no_folders) has_deposit Nothing propose_done
       has_proposed
   unfolding next_waiting deposits_of known_of same_slot
   proposes = (
     Ok prepare_answer,
-    called three three_are 1 (r (deposited bag) ∷ []) (is_d bag request, tt) (tables a three 1
-        none_heard)
-        (tables a three 1 none_promised) (volatile_of [] None) 1 1 (calls.Proposes a)
-        preparing None proposes_it refl (is_r bag request) three_prepares (omega arith)
-        nothing prepared_stands,
-    λ opened fault e.
-        absurd (not_refused fault (sym (ap (λ (f : Effect). f.says) proposes_it) ∙ e)),
+    called three three_are 1 (r (deposited bag) ∷ []) (is_d bag request, tt)
+        (tables a three 1 none_heard) (tables a three 1 none_promised) (volatile_of [] None) 1 1
+        (calls.Proposes a) preparing None proposes_it refl (is_r bag request) three_prepares
+        (omega arith) nothing prepared_stands,
+    λ opened fault e. let says = rw proposes_it at e in absurd (cc says),
     refl,
   )
 
@@ -245,17 +221,13 @@ module _ (bag : BagId) (request : Request 7 a bag) where
       asked,
       (member 1 (omega arith) (omega arith), serving),
       record {
-        may_come = (request.are_bytes, λ message e is. absurd (other (sym request.asked ∙ e)));
+        may_come = (request.are_bytes, λ message e is. absurd (cc request.asked));
         comes = deposits;
       },
       refl,
     ),
     rest,
   )
-    where
-      other : {message : Message}
-          → requests.Deposits request.address a request.path ≡ requests.Says message → ⊥
-      other e = cc
 
   pub is_idle : (f : Federation Disk) (later : List (Happening Disk))
       → f.members 1 ≡ Serves has_deposit
@@ -385,8 +357,7 @@ module _ (bag : BagId) (request : Request 7 a bag) where
             serves 2 (hears Votes2).old,
             (member 2 (omega arith) (omega arith), refl),
             takes (hears Votes2) (fits bag request Votes2) (answers bag request Votes2)
-                (stands bag request Votes2) then 2
-                (at_index 7 then.handed _ refl),
+                (stands bag request Votes2) then 2 (at_index 7 then.handed _ refl),
             record {
               told = refl;
               bytes = journal two records;
@@ -405,8 +376,8 @@ module _ (bag : BagId) (request : Request 7 a bag) where
       × DiesVoting bag (r (promised bag) ∷ r (voted bag) ∷ [])
   killed = (
     dies (r (promised bag) ∷ []) (p, tt) 2 (omega arith) (omega arith) refl,
-    dies (r (promised bag) ∷ r (voted bag) ∷ []) (p, (is_v bag request, tt)) 3 (omega arith) (omega
-        arith) refl,
+    dies (r (promised bag) ∷ r (voted bag) ∷ []) (p, (is_v bag request, tt)) 3 (omega arith)
+        (omega arith) refl,
   )
     where
       p : IsRecord (r (promised bag))

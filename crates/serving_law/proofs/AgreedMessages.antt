@@ -1,6 +1,5 @@
 -- What three sites that agree record and send is well-formed.
-use Rattle.std.proofs.Common.{ℕ, ◌≡◌, ◌<◌, sym, ◌∙◌}
-use Rattle.std.proofs.Common.{List, [], ◌∷◌, ◌++◌, None, arith}
+use Rattle.std.proofs.Common.{ℕ, ◌<◌, List, [], ◌∷◌, ◌++◌, None, arith}
 use Rattle.fed_types.specs.declared.bag_id.BagId.{BagId}
 use Rattle.fed_types.specs.declared.vote.Vote.{Vote}
 use Rattle.fed_types.specs.Values.{IsSlot, IsBag, IsBallot, IsVote}
@@ -9,10 +8,8 @@ use Rattle.records.specs.declared.entry.Entry.{Entry}
 use Rattle.records.specs.declared.entry.Entry.TheVariants as entry
 use Rattle.records.specs.Records.{IsRecord}
 use Rattle.dgram.specs.declared.body.Body.TheVariants.{Prepare, Promise, Accept, Accepted}
-use Rattle.dgram.specs.declared.message.Message.{Message}
 use Rattle.dgram.specs.Encoding.{datagram_of, body_bytes}
 use Rattle.dgram.specs.Messages.{IsMessage}
-use Rattle.udp_site.specs.Requests as requests
 use Rattle.udp_site.specs.Traffic.{From}
 use Rattle.serving_law.specs.Examples.{Request}
 use Rattle.serving_law.specs.ExamplesAgreed.{three, a, ballot, vote}
@@ -44,19 +41,14 @@ module _ (bag : BagId) (request : Request 7 a bag) where
   v = vote bag
 
   pub come : MayCome three [] (From request.address request.bytes)
-  come = (request.are_bytes, λ message e is. absurd (other (sym request.asked ∙ e)))
-    where
-      other : {message : Message}
-          → requests.Deposits request.address a request.path ≡ requests.Says message → ⊥
-      other e = cc
+  come = (request.are_bytes, λ message e is. absurd (cc request.asked))
 
   -- ---- what is written and sent is well-formed
 
   pub is_slot : IsSlot a
   is_slot =
       deposit_is_slot three [] (From request.address request.bytes) come request.address a
-      request.path
-      request.asked
+      request.path request.asked
 
   pub is_bag : IsBag bag
   is_bag = checked_is request.facts bag request.checked
@@ -73,16 +65,14 @@ module _ (bag : BagId) (request : Request 7 a bag) where
   ballot_fits : (rest : List ℕ) → Bytes rest → Bytes (body_bytes (Prepare ballot) ++ rest)
   ballot_fits rest fits =
       joined (body_bytes (Prepare ballot)) rest
-      (joined (bytes_high_first 4 1) (1 ∷ []) (of_number 4 1)
-      (omega arith, tt)) fits
+      (joined (bytes_high_first 4 1) (1 ∷ []) (of_number 4 1) (omega arith, tt)) fits
 
   bag_fits : Bytes bag.0
   bag_fits = of_bag request.facts bag request.checked
 
   pub prepare_fits : AreBytes (datagram_of 7 (m (Prepare ballot)))
   prepare_fits = of_message 7 (m (Prepare ballot)) (omega arith) (omega arith) slot_fits
-      (joined (bytes_high_first 4 1) (1 ∷ []) (of_number 4 1)
-      (omega arith, tt))
+      (joined (bytes_high_first 4 1) (1 ∷ []) (of_number 4 1) (omega arith, tt))
 
   pub promise_fits : (n : ℕ) → n < 256 → AreBytes (datagram_of 7 (m (Promise n ballot None)))
   promise_fits n lt =

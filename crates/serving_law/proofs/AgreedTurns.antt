@@ -1,8 +1,7 @@
 -- The turns in which three sites hear what leads to an agreement: which message comes, and what
 -- comes of it.
-use Rattle.std.proofs.Common.{◌≡◌, ◌<◌, ◌^◌, ℕ, zero, suc, Bool, true, false, cond, List, []}
-use Rattle.std.proofs.Common.{◌∷◌, ◌++◌, take}
-use Rattle.std.proofs.Common.{length, Option, None, Some, refl, ap, ◌∙◌, arith}
+use Rattle.std.proofs.Common.{◌≡◌, ◌<◌, ◌^◌, ℕ, Bool, true, false, cond, List, [], ◌∷◌, ◌++◌, take}
+use Rattle.std.proofs.Common.{length, Option, None, Some, refl, arith}
 use Rattle.std.specs.Prelude.{bytes_eq}
 use Rattle.std.specs.List.{cons_option}
 use Rattle.std.proofs.lemmas.Slice.Eq.{bytes_eq-Decides}
@@ -36,10 +35,10 @@ use Rattle.udp_site.specs.Requests as requests
 use Rattle.serving_law.specs.Examples.{Request}
 use Rattle.serving_law.specs.ExamplesAgreed.{a, ballot, vote}
 use Rattle.serving_law.specs.Rules.{AreBytes}
-use Rattle.serving_law.proofs.AgreedMessages.{is_accept, is_accepted_1, is_accepted_2}
-use Rattle.serving_law.proofs.AgreedMessages.{is_promise_1, is_promise_2, is_prepare}
-use Rattle.serving_law.proofs.AgreedMessages.{is_d, is_r, is_p, is_v, is_k, prepare_fits}
-use Rattle.serving_law.proofs.AgreedMessages.{promise_fits, accept_fits, accepted_fits}
+use Rattle.serving_law.proofs.AgreedMessages.{is_accept, is_accepted_1, is_accepted_2, is_promise_1}
+use Rattle.serving_law.proofs.AgreedMessages.{is_promise_2, is_prepare, is_d, is_r, is_p, is_v}
+use Rattle.serving_law.proofs.AgreedMessages.{is_k, prepare_fits, promise_fits, accept_fits}
+use Rattle.serving_law.proofs.AgreedMessages.{accepted_fits}
 use Rattle.serving_law.proofs.Agreement.{State, Hearing, Answers, Stands, Fits, m, r, to_site}
 use Rattle.serving_law.proofs.Agreement.{to_all}
 use Rattle.serving_law.proofs.Answers.{AreMessages, seals}
@@ -98,15 +97,13 @@ module _ (bag : BagId) (request : Request 7 a bag) where
       ∷ Accepted 2 v ∷ [])
 
   abbrev heard_2 : ℕ → List Body
-  heard_2 count =
-      take count (Prepare ballot ∷ Accept v ∷ Accepted 1 v ∷ Accepted 2 v ∷ [])
+  heard_2 count = take count (Prepare ballot ∷ Accept v ∷ Accepted 1 v ∷ Accepted 2 v ∷ [])
 
   abbrev heard_3 : ℕ → List Body
   heard_3 count = take count (Accepted 1 v ∷ Accepted 2 v ∷ [])
 
   abbrev heard_again : ℕ → List Body
-  heard_again count =
-      take count (Accepted 1 v ∷ Accepted 1 v ∷ Accepted 2 v ∷ Accepted 1 v ∷ [])
+  heard_again count = take count (Accepted 1 v ∷ Accepted 1 v ∷ Accepted 2 v ∷ Accepted 1 v ∷ [])
 
   -- site 1, which has issued its ballot, and another, which has none
   abbrev begins_ballot : (records messages : ℕ) → List ℕ → heard_row → State
@@ -201,8 +198,7 @@ module _ (bag : BagId) (request : Request 7 a bag) where
       unheard (to_all (Accepted 2 v)) (is, (is, (is, tt))) (omega arith)
   hearing Hears11 = counts 1 (begins_ballot 4 4 (1 ∷ 2 ∷ []) rows.Unheard) (Accepted 1 v) one_vote
   hearing Hears12 = learns 1 (begins_ballot 4 5 (1 ∷ 2 ∷ []) one_vote) (Accepted 2 v)
-  hearing Hears21 =
-      counts 2 (idle (records_2 2) (heard_2 2) rows.Unheard) (Accepted 1 v) one_vote
+  hearing Hears21 = counts 2 (idle (records_2 2) (heard_2 2) rows.Unheard) (Accepted 1 v) one_vote
   hearing Hears22 = learns 2 (idle (records_2 2) (heard_2 3) one_vote) (Accepted 2 v)
   hearing Hears31 = counts 3 (idle [] [] rows.Unheard) (Accepted 1 v) one_vote
   hearing Hears32 = learns 3 (idle [] (heard_3 1) one_vote) (Accepted 2 v)
@@ -222,12 +218,6 @@ module _ (bag : BagId) (request : Request 7 a bag) where
   unfolding on_arrival on_body prepare_decision accept_decision promised_of vote_of to_each sites_to
       is_in same_slot ballot_cmp known_of deposit_of gathered highest_prior proposal promises_for
       promisers priors bodies_of chosen_by voters_for
-  answers Asked1 = refl
-  answers Asked2 = refl
-  answers Promised1 = refl
-  answers Promised2 = refl
-  answers Votes1 = refl
-  answers Votes2 = refl
   answers Hears11 = rw itself refl
   answers Hears12 = rw itself refl
   answers Hears21 = rw itself refl
@@ -236,7 +226,7 @@ module _ (bag : BagId) (request : Request 7 a bag) where
   answers Hears32 = rw itself refl
   answers HearsAgain = rw itself refl
   answers HearsOther = rw itself refl
-  answers HearsLate = refl
+  answers _ = refl
 
   -- ---- the tables represent what was heard
 
@@ -274,33 +264,26 @@ module _ (bag : BagId) (request : Request 7 a bag) where
       stands_idle 2 (records_2 2) (heard_2 2) rows.Unheard refl (λ none u k. refl) refl refl
   stands Hears11 =
       stands_issued 1 (records_1 4) (heard_1 5) one_vote refl
-      (λ none u k. ap (λ (xs : List ℕ). is_in xs k)
-      (counted bag (1 ∷ []) u ∙ one (same_vote v u) 1))
+      (λ none u k. rw (counted bag (1 ∷ []) u, one (same_vote v u) 1) refl)
       refl (1 ∷ 2 ∷ []) refl refl refl
   stands Hears12 =
       stands_issued 1 (records_1 5) (heard_1 6) (rows.Known bag) refl (λ none. absurd (cc none))
       refl (1 ∷ 2 ∷ []) refl refl refl
   stands Hears21 =
       stands_idle 2 (records_2 2) (heard_2 3) one_vote refl
-      (λ none u k. ap (λ (xs : List ℕ). is_in xs k)
-      (counted bag (1 ∷ []) u ∙ one (same_vote v u) 1))
-      refl refl
+      (λ none u k. rw (counted bag (1 ∷ []) u, one (same_vote v u) 1) refl) refl refl
   stands Hears22 =
       stands_idle 2 (records_2 3) (heard_2 4) (rows.Known bag) refl (λ none. absurd (cc none)) refl
       refl
   stands Hears31 =
       stands_idle 3 [] (heard_3 1) one_vote refl
-      (λ none u k. ap (λ (xs : List ℕ). is_in xs k)
-      (counted bag (1 ∷ []) u ∙ one (same_vote v u) 1))
-      refl refl
+      (λ none u k. rw (counted bag (1 ∷ []) u, one (same_vote v u) 1) refl) refl refl
   stands Hears32 =
       stands_idle 3 (entry.Known bag ∷ []) (heard_3 2) (rows.Known bag) refl
       (λ none. absurd (cc none)) refl refl
   stands HearsAgain =
       stands_idle 3 [] (heard_again 2) same_vote_twice refl
-      (λ none u k. ap (λ (xs : List ℕ). is_in xs k)
-      (counted bag (1 ∷ 1 ∷ []) u ∙ twice (same_vote v u) 1))
-      refl refl
+      (λ none u k. rw (counted bag (1 ∷ 1 ∷ []) u, twice (same_vote v u) 1) refl) refl refl
   stands HearsOther =
       stands_idle 3 (entry.Known bag ∷ []) (heard_again 3) (rows.Known bag) refl
       (λ none. absurd (cc none)) refl refl
@@ -313,13 +296,8 @@ module _ (bag : BagId) (request : Request 7 a bag) where
   abbrev fit : {h : Hearing} → AreRecords (records_of a h.old.es) → IsMessage (m h.body)
       → requests.request_by 0 (m h.body) h.body ≡ requests.Says (m h.body)
       → AreBytes (datagram_of 7 (m h.body)) → IsKept h.commits → Fits h
-  fit are is says fits keep = record {
-    are = are;
-    is = is;
-    says = says;
-    fits = fits;
-    keep = keep;
-  }
+  fit are is says fits keep =
+      record { are = are; is = is; says = says; fits = fits; keep = keep }
 
   abbrev is_1 : IsMessage (m (Accepted 1 v))
   is_1 = is_accepted_1 bag request
@@ -337,15 +315,13 @@ module _ (bag : BagId) (request : Request 7 a bag) where
   three_records = (is_d bag request, (is_r bag request, (is_p bag request, tt)))
 
   four_records : AreRecords (records_of a (records_1 4))
-  four_records =
-      (is_d bag request, (is_r bag request, (is_p bag request, (is_v bag request, tt))))
+  four_records = (is_d bag request, (is_r bag request, (is_p bag request, (is_v bag request, tt))))
 
   pub fits : (turn : Turn) → Fits (hearing turn)
   fits Asked1 =
       fit (is_d bag request, (is_r bag request, tt)) (is_prepare bag request) refl
       (prepare_fits bag request) (is_p bag request)
-  fits Asked2 =
-      fit tt (is_prepare bag request) refl (prepare_fits bag request) (is_p bag request)
+  fits Asked2 = fit tt (is_prepare bag request) refl (prepare_fits bag request) (is_p bag request)
   fits Promised1 =
       fit three_records (is_promise_1 bag request) refl (promise_fits bag request 1 (omega arith))
       tt

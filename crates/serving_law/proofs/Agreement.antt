@@ -1,6 +1,6 @@
 -- Three sites that serve agree: their turns, one by one.
-use Rattle.std.proofs.Common.{ℕ, zero, suc, ◌≡◌, ◌<◌, ◌^◌, refl}
-use Rattle.std.proofs.Common.{List, [], ◌∷◌, length, Option, Some, arith}
+use Rattle.std.proofs.Common.{ℕ, zero, suc, ◌≡◌, ◌<◌, ◌^◌, refl, List, [], ◌∷◌, length, Option}
+use Rattle.std.proofs.Common.{Some, arith}
 use Rattle.std.specs.Prelude.{slice_index_or}
 use Rattle.fed_types.specs.Lists.{Has}
 use Rattle.fed_types.specs.Quorums.{quorums_of}
@@ -20,7 +20,7 @@ use Rattle.site.specs.declared.answer.Line.{Line}
 use Rattle.site.specs.Calls as calls
 use Rattle.site.specs.Calls.{effect_of}
 use Rattle.site.specs.Effects.{Effect, Send}
-use Rattle.site_tables.specs.Contents.{Represents}
+use Rattle.site.specs.Contents.{Represents}
 use Rattle.udp_site.specs.Requests as requests
 use Rattle.udp_site.specs.Turns.{Serving}
 use Rattle.serving_law.specs.Disks.{Disk, device}
@@ -124,16 +124,14 @@ pub record Fits (h : Hearing) : Type 0 where
   pub keep : IsKept h.commits
 
 module _ (h : Hearing) (fits : Fits h) (answers : Answers h) (stands : Stands h)
-    (f : Federation Disk) (port : ℕ)
-    (handed : Has (port, datagram_of 7 (m h.body)) f.handed) where
+    (f : Federation Disk) (port : ℕ) (handed : Has (port, datagram_of 7 (m h.body)) f.handed) where
   pub takes : Takes device three f (serves h.n h.old) (step_of h)
   takes = record {
     may_come = (fits.fits, λ message e is. (port, handed));
     comes =
         hears three three_are h.n addresses (records_of a h.old.es) (tables a three h.n h.old.rows)
         (volatile_of h.old.bs h.old.current) h.old.turns h.old.turns (next_of h) (m h.body) fits.is
-        fits.says (answer_in h)
-        (called three three_are h.n (records_of a h.old.es) fits.are
+        fits.says (answer_in h) (called three three_are h.n (records_of a h.old.es) fits.are
         (tables a three h.n h.old.rows) (tables a three h.n h.rows)
         (volatile_of h.old.bs h.old.current) h.old.turns h.old.turns
         (calls.Arrives (Some (m h.body))) (comes_to h) h.line answers refl fits.keep h.ms h.few
@@ -142,5 +140,4 @@ module _ (h : Hearing) (fits : Fits h) (answers : Answers h) (stands : Stands h)
 
   pub may_turn : Has h.n (members_of three) → f.members h.n ≡ Serves (serves h.n h.old)
       → (count written : ℕ) → May device three f (Turns h.n (step_of h) count written)
-  may_turn member is_serving count written =
-      (serves h.n h.old, (member, is_serving), takes, refl)
+  may_turn member is_serving count written = (serves h.n h.old, (member, is_serving), takes, refl)

@@ -1,5 +1,5 @@
 -- Answers of a site's call, made of what it says and sends.
-use Rattle.std.proofs.Common.{ℕ, ◌≡◌, ◌<◌, ◌^◌, refl, ap, List, [], ◌∷◌, Option, length, map, arith}
+use Rattle.std.proofs.Common.{ℕ, ◌≡◌, ◌<◌, ◌^◌, refl, List, [], ◌∷◌, Option, length, map, arith}
 use Rattle.std.specs.List.{AllByRecursion}
 use denote.RawPtr.{null_ptr}
 use Rattle.dgram.specs.declared.message.Message.{Message}
@@ -42,9 +42,7 @@ seals federation (s ∷ sends) are =
 pub seals_are : (federation : ℕ) (sends : List Send) (are : AreMessages sends)
     → map handed_out (seals federation sends are) ≡ map (datagram federation) sends
 seals_are federation [] are = refl
-seals_are federation (s ∷ sends) are =
-    ap (λ (rest : List (ℕ × List ℕ)). datagram federation s ∷ rest)
-    (seals_are federation sends are.1)
+seals_are federation (s ∷ sends) are = rw (seals_are federation sends are.1) refl
 
 abbrev pub answer_of : Option Line → (sends : List Outgoing) → length sends < 2 ^ 63 → Answer
 answer_of line sends few = record {

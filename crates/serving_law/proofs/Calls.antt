@@ -1,7 +1,7 @@
 -- A call of a site that serves is a move of its site in a network.
-use Rattle.std.proofs.Common.{ℕ, ◌≡◌, inl, inr, refl, sym, ap, subst, ◌∙◌, true, false}
-use Rattle.std.proofs.Common.{List, [], ◌∷◌, ◌++◌, append-nil, map, Option, None, Some}
-use Rattle.std.specs.Prelude.{Result, Ok, Err, IsSome}
+use Rattle.std.proofs.Common.{ℕ, ◌≡◌, inl, inr, refl, sym, ap, ◌∙◌, true, false, List, [], ◌∷◌}
+use Rattle.std.proofs.Common.{◌++◌, append-nil, map, Option, None, Some}
+use Rattle.std.specs.Prelude.{Result, Ok, Err}
 use Rattle.std.specs.List.{flat_map}
 use Rattle.std.specs.Option.{option_to_list, IfSome}
 use Rattle.fed_types.specs.declared.bag_id.BagId.{BagId}
@@ -9,18 +9,14 @@ use Rattle.fed_types.specs.Lists.{Has, here, there}
 use Rattle.fed_types.specs.Quorums.{QuorumSystem}
 use Rattle.fed_types.specs.Sites.{Membership}
 use Rattle.fed_types.specs.Slots.{SlotName}
-use Rattle.fed_types.specs.Laws.Lists.{has_map, map_has, has_none, has_right, has_one}
-use Rattle.fed_types.specs.Laws.Lists.{has_cases}
+use Rattle.fed_types.specs.Laws.Lists.{has_map, map_has, has_none, has_right, has_one, has_cases}
 use Rattle.std.proofs.lemmas.Bool.{false≢true}
 use Rattle.cell_device.specs.Devices.{Device}
 use Rattle.bag_check.specs.declared.fault.BagFault.{BagFault}
-use Rattle.records.specs.declared.entry.Entry.TheVariants as entry
 use Rattle.records.specs.declared.owner.Owner.{Owner}
 use Rattle.records.specs.declared.record.Record.{Record}
-use Rattle.records.specs.Bounds.{HasEntry}
 use Rattle.records.specs.Records.{IsRecord}
 use Rattle.records.proofs.Bounds.{known_among}
-use Rattle.book.specs.OpenBooks.{RecoversTo}
 use Rattle.proposer.specs.VolatileStates.{VolatileState}
 use Rattle.site.specs.declared.answer.Answer.{Answer}
 use Rattle.site.specs.declared.answer.Line.{Line}
@@ -29,8 +25,7 @@ use Rattle.site.specs.declared.answer.Reply.{Reply}
 use Rattle.site.specs.declared.fault.SiteFault.{SiteFault}
 use Rattle.site.specs.declared.fault.SiteFault.TheVariants as faults
 use Rattle.site.specs.Answered.{Keeps, Gives}
-use Rattle.site.specs.Calls.{Input, Deposits, Proposes, Recovers, Asks, Arrives}
-use Rattle.site.specs.Calls.{effect_of}
+use Rattle.site.specs.Calls.{Input, Deposits, effect_of}
 use Rattle.site.specs.Datagrams.{handed_out, datagram}
 use Rattle.site.specs.Effects.{Effect}
 use Rattle.site.specs.Reported.{line_report}
@@ -39,11 +34,10 @@ use Rattle.site.proofs.Reports.{answered}
 use Rattle.lines.specs.declared.notice.Notice.{Notice}
 use Rattle.lines.specs.declared.notice.Notice.TheVariants.{Registered, Learned, Replied}
 use Rattle.lines.specs.Notices.{notice_of}
-use Rattle.world_law.specs.Networks.{Network, SiteState, Mode, Up, Down, volatile_in}
-use Rattle.world_law.proofs.Deeds.{Deed, MayDeposit, some_same}
+use Rattle.world_law.specs.Networks.{Network, Mode, Up, Down, volatile_in}
+use Rattle.world_law.proofs.Deeds.{Deed, MayDeposit, some_same, nothing_sent}
 use Rattle.world_law.proofs.Grows.{grows_itself}
 use Rattle.world_law.proofs.Step.{moved, kept_moved, Next, Sound, nothing_recalled, reports_nothing}
-use Rattle.world_law.proofs.Deeds.{nothing_sent}
 use Rattle.world_law.proofs.WellFormedEffects.{IsWellFormedEffect}
 use Rattle.udp_site.specs.Turns.{Serving, IsCalled, posts_of, outgoing_posts, notices_of}
 use Rattle.serving_law.specs.Federations.{Serves}
@@ -54,8 +48,8 @@ use Rattle.serving_law.proofs.Moves.{moved_site, others_stay, moved_formed}
 use Rattle.serving_law.proofs.Recoveries.{Recovered, IsKept, kept_ok, kept_err, device_needs}
 use Rattle.serving_law.proofs.Registrations.{registered_is_kept}
 use Rattle.serving_law.proofs.Scene.{Scene}
-use Rattle.serving_law.proofs.Networks.{quorums, serving, IsServed, IsSent, IsNotice}
-use Rattle.serving_law.proofs.Networks.{HasDeposit, HasKnown, May, Moves}
+use Rattle.serving_law.proofs.Networks.{quorums, serving, IsServed, IsSent, IsNotice, HasDeposit}
+use Rattle.serving_law.proofs.Networks.{HasKnown, May, Moves}
 
 -- what stands in one of these lists
 pub has_flat_map : {X Y : Type 0} (f : X → List Y) (y : Y) (xs : List X) → Has y (flat_map f xs)
@@ -77,7 +71,7 @@ has_notice (Some l) m h = ap Some (has_one h)
 pub any_slot : SlotName
 any_slot = record { object = []; version = 0 }
 
-module _ {C : Type 0} (device : C → Device) (members : Membership) (s : Scene device members)
+module _ {C : Type 0} {device : C → Device} {members : Membership} (s : Scene device members)
     (idle tried : ℕ) where
   open s use {w, inv, formed, n, cell, tables, recovers}
 
@@ -104,9 +98,7 @@ module _ {C : Type 0} (device : C → Device) (members : Membership) (s : Scene 
     opened = k.opened;
     whose = k.whose;
     volatile = same;
-    recovers =
-        subst (λ (rs : List Record). RecoversTo owner rs (device new.site.book.cell).image)
-        k.records k.recovers;
+    recovers = rw k.records at k.recovers;
   }
 
   -- nothing moves
@@ -122,9 +114,7 @@ module _ {C : Type 0} (device : C → Device) (members : Membership) (s : Scene 
       opened = k.opened;
       whose = k.whose;
       volatile = same;
-      recovers =
-          subst (λ (rs : List Record). RecoversTo owner rs (device new.site.book.cell).image)
-          (k.records ∙ append-nil (w.sites n).records) k.recovers;
+      recovers = rw (k.records, append-nil) at k.recovers;
     };
     deposits = λ j slot bag h. inl h;
   }
@@ -139,15 +129,14 @@ module _ {C : Type 0} (device : C → Device) (members : Membership) (s : Scene 
       → records ≡ (w.sites n).records ++ option_to_list o
       → Moves device members w (stopped o) n (federations.Down records) D
   stops o D slot body sound is records same =
-      let next =
-      kept_moved q w n o Down [] None D slot body sound inv nothing_recalled reports_nothing in
+      let next = kept_moved q w n o Down [] None D slot body sound inv nothing_recalled
+      reports_nothing in
       record {
         kept = next.kept;
         formed = moved_formed w n o Down [] None formed is tt (λ d h. absurd (has_none h));
         grows = next.grows;
         others = others_stay w n o Down [] None;
-        is =
-            subst (λ t. records ≡ t.records) (sym (moved_site w n o Down [] None)) same;
+        is = rw (moved_site w n o Down [] None) same;
         deposits = λ k slot bag h. elim (next.deposits k slot bag h) [
           | inl old ↦ inl old
           | inr may ↦ inr (sym (some_same may.0), may.1)
@@ -179,6 +168,13 @@ module _ {C : Type 0} (device : C → Device) (members : Membership) (s : Scene 
           kept_moved q w n e.commits (Up e.volatile) e.sends (notice_of n input e.says)
           (MayDeposit input) deed.slot deed.body deed.sound inv deed.recalls deed.reports
 
+      now_is : called.sites n
+          ≡ record {
+            records = (w.sites n).records ++ option_to_list e.commits;
+            mode = Up e.volatile;
+          }
+      now_is = moved_site w n e.commits (Up e.volatile) e.sends (notice_of n input e.says)
+
       pub ok_moves : (answer : Answer) (new : Serving C)
           → IsCalled device old input (Ok answer) new
           → Moves device members w called n (Serves new) (MayDeposit input)
@@ -190,12 +186,9 @@ module _ {C : Type 0} (device : C → Device) (members : Membership) (s : Scene 
         grows = step.grows;
         others = others_stay w n e.commits (Up e.volatile) e.sends (notice_of n input e.says);
         is =
-            subst (IsServed device members n new)
-            (sym (moved_site w n e.commits (Up e.volatile) e.sends (notice_of n input e.says)))
-            (served new e.commits (Up e.volatile)
+            rw now_is (served new e.commits (Up e.volatile)
             (kept_ok device owner old.site.book refl refl recovers e.commits answer new.site.book
-            (c.answered refl).keeps)
-            c.volatile);
+            (c.answered refl).keeps) c.volatile);
         deposits = λ k slot bag h. elim (step.deposits k slot bag h) [
           | inl old ↦ inl old
           | inr may ↦ inr (sym (some_same may.0), may.1)
@@ -204,21 +197,17 @@ module _ {C : Type 0} (device : C → Device) (members : Membership) (s : Scene 
 
       -- its record is lost or kept where it is killed
       pub stopped_moves : (records : List Record)
-          → Recovered (w.sites n).records e.commits records
-          → (x : Network)
+          → Recovered (w.sites n).records e.commits records → (x : Network)
           × Moves device members w x n (federations.Down records) (MayDeposit input)
       stopped_moves records (inl same) = stops_as_it_was (MayDeposit input) records same
       stopped_moves records (inr (r, commits, more)) = (
         stopped (Some r),
         stops (Some r) (MayDeposit input) deed.slot deed.body sound
-            (subst (λ (o : Option Record). IfSome o IsRecord) commits is.commits) records more,
+            (rw commits at is.commits) records more,
       )
         where
           all : Sound q w n (MayDeposit input) (Some r) deed.slot deed.body e.sends
-          all =
-              subst
-              (λ (o : Option Record). Sound q w n (MayDeposit input) o deed.slot deed.body e.sends)
-              commits deed.sound
+          all = rw commits at deed.sound
 
           sound : Sound q w n (MayDeposit input) (Some r) deed.slot deed.body []
           sound = record {
@@ -237,8 +226,7 @@ module _ {C : Type 0} (device : C → Device) (members : Membership) (s : Scene 
       ok_posts answer given addresses port bytes h =
           let at = has_flat_map (outgoing_posts addresses) (port, bytes) answer.sends.items h in
           let to = has_map (λ (p : ℕ). (p, at.0.bytes.items)) _ at.2 in
-          let among = subst (λ ps. Has (handed_out at.0) ps) given
-          (map_has handed_out at.1) in
+          let among = rw given at (map_has handed_out at.1) in
           let from = has_map (datagram members.federation) e.sends among in
           record {
             send = from.0;
@@ -253,119 +241,58 @@ module _ {C : Type 0} (device : C → Device) (members : Membership) (s : Scene 
           → input ≡ Deposits slot checked → e.says ≡ Ok (Some (site_lines.Registered bag))
           → HasDeposit called n slot bag
       deposit_kept slot checked bag as_input says =
-          subst (λ (t : SiteState). HasEntry slot t.records (entry.Deposit bag))
-          (sym (moved_site w n e.commits (Up e.volatile) e.sends (notice_of n input e.says)))
-          (at input as_input says)
-        where
-          at : (i : Input) → i ≡ Deposits slot checked
-              → (effect_of q n (w.sites n).records volatile i).says
-              ≡ Ok (Some (site_lines.Registered bag))
-              → HasEntry slot
-              ((w.sites n).records
-              ++ option_to_list (effect_of q n (w.sites n).records volatile i).commits)
-              (entry.Deposit bag)
-          at i f g =
-              subst
-              (λ (i : Input). (effect_of q n (w.sites n).records volatile i).says
-              ≡ Ok (Some (site_lines.Registered bag))
-              → HasEntry slot
-              ((w.sites n).records
-              ++ option_to_list (effect_of q n (w.sites n).records volatile i).commits)
-              (entry.Deposit bag))
-              (sym f)
-              (registered_is_kept slot (w.sites n).records volatile checked bag) g
+          rw (now_is, as_input)
+          (registered_is_kept slot (w.sites n).records volatile checked bag (rw as_input at says))
 
       -- a bag that is learned is on record
       known_kept : (slot : SlotName) (bag : BagId) → e.says ≡ Ok (Some (site_lines.Known slot bag))
           → HasKnown called n slot bag
       known_kept slot bag says =
-          subst (λ (t : SiteState). HasEntry slot t.records (entry.Known bag))
-          (sym (moved_site w n e.commits (Up e.volatile) e.sends (notice_of n input e.says)))
-          (known_among slot ((w.sites n).records ++ option_to_list e.commits) bag
+          rw now_is (known_among slot ((w.sites n).records ++ option_to_list e.commits) bag
           (answered q n (w.sites n).records volatile input (record { slot = slot; bag = bag })
           (ap line_report says)))
 
       pub ok_notices : (answer : Answer) → e.says ≡ Ok answer.line → (notice : Notice)
-          → Has notice (notices_of n input (Ok answer))
-          → IsNotice device members w called notice
-      ok_notices answer says notice h = record {
-        known = λ r reports. deed.reports.chosen notice r said reports;
-        registered = λ k slot bag as_notice.
-            by_line answer.line says input refl
-            (has_notice (notice_of n input (Ok answer.line)) notice h ∙ ap Some as_notice);
-        learned = λ k slot bag as_notice.
-            by_known answer.line says input
-            (has_notice (notice_of n input (Ok answer.line)) notice h ∙ ap Some as_notice);
-        replied = λ k slot bag as_notice.
-            absurd (no_reply answer.line input
-            (has_notice (notice_of n input (Ok answer.line)) notice h ∙ ap Some as_notice));
-      }
+          → Has notice (notices_of n input (Ok answer)) → IsNotice device members w called notice
+      ok_notices answer says notice h =
+          let is = has_notice (notice_of n input (Ok answer.line)) notice h in
+          record {
+            known = λ r reports. deed.reports.chosen notice r (rw says is) reports;
+            registered = λ k slot bag e. by_line answer.line says input refl (cc is);
+            learned = λ k slot bag e. by_known answer.line says input (cc is);
+            replied = λ k slot bag e. absurd (no_reply answer.line input (is ∙ ap Some e));
+          }
         where
-          said : notice_of n input e.says ≡ Some notice
-          said = rw says (has_notice (notice_of n input (Ok answer.line)) notice h)
-
           by_known : (line : Option Line) → e.says ≡ Ok line → (i : Input)
               → {k : ℕ} {slot : SlotName} {bag : BagId}
               → notice_of n i (Ok line) ≡ Some (Learned k slot bag) → HasKnown called k slot bag
-          by_known None g i same = absurd (cc same)
-          by_known (Some site_lines.Dropped) g i same = absurd (cc same)
-          by_known (Some (site_lines.Registered bag)) g (Deposits slot checked) same =
-              absurd (cc same)
-          by_known (Some (site_lines.Registered bag)) g (Proposes slot) same = absurd (cc same)
-          by_known (Some (site_lines.Registered bag)) g (Recovers slot) same = absurd (cc same)
-          by_known (Some (site_lines.Registered bag)) g (Asks slot member) same = absurd (cc same)
-          by_known (Some (site_lines.Registered bag)) g (Arrives message) same = absurd (cc same)
           by_known (Some (site_lines.Known found_slot found)) g i {k = k} {slot = slot} {bag = bag}
               same =
-              let f : Learned n found_slot found ≡ Learned k slot bag = some_same same in
               let place : n ≡ k = cc in
               let slots : found_slot ≡ slot = cc in
               let bags : found ≡ bag = cc in
-              subst (λ (m : ℕ). HasKnown called m slot bag) place
-              (subst (λ (s : SlotName). HasKnown called n s bag) slots
-              (subst (λ (b : BagId). HasKnown called n found_slot b) bags
-              (known_kept found_slot found g)))
+              rw (← place, ← slots, ← bags) (known_kept found_slot found g)
+          by_known (Some (site_lines.Registered bag)) g (Deposits slot checked) same =
+              absurd (cc same)
+          by_known _ g _ same = absurd (cc same)
 
           no_reply : (line : Option Line) (i : Input)
               → {k : ℕ} {slot : SlotName} {reply : Reply BagId}
               → notice_of n i (Ok line) ≡ Some (Replied k slot reply) → ⊥
-          no_reply None i same = cc
-          no_reply (Some site_lines.Dropped) i same = cc
-          no_reply (Some (site_lines.Known slot bag)) i same = cc
           no_reply (Some (site_lines.Registered bag)) (Deposits slot checked) same = cc
-          no_reply (Some (site_lines.Registered bag)) (Proposes slot) same = cc
-          no_reply (Some (site_lines.Registered bag)) (Recovers slot) same = cc
-          no_reply (Some (site_lines.Registered bag)) (Asks slot member) same = cc
-          no_reply (Some (site_lines.Registered bag)) (Arrives message) same = cc
-
-          at_deposit : (slot k_slot : SlotName) (checked : Result BagId BagFault) (k : ℕ)
-              (found bag : BagId) → input ≡ Deposits slot checked
-              → e.says ≡ Ok (Some (site_lines.Registered found))
-              → Registered n slot found ≡ Registered k k_slot bag
-              → HasDeposit called k k_slot bag
-          at_deposit slot k_slot checked k found bag f g same =
-              let place : n ≡ k = cc in
-              let slots : slot ≡ k_slot = cc in
-              let bags : found ≡ bag = cc in
-              subst (λ (m : ℕ). HasDeposit called m k_slot bag) place
-              (subst (λ (s : SlotName). HasDeposit called n s bag) slots
-              (subst (λ (b : BagId). HasDeposit called n slot b) bags
-              (deposit_kept slot checked found f g)))
+          no_reply _ _ same = cc
 
           by_line : (line : Option Line) → e.says ≡ Ok line → (i : Input) → input ≡ i
               → {k : ℕ} {slot : SlotName} {bag : BagId}
               → notice_of n i (Ok line) ≡ Some (Registered k slot bag)
               → HasDeposit called k slot bag
-          by_line None g i f same = absurd (cc same)
-          by_line (Some site_lines.Dropped) g i f same = absurd (cc same)
-          by_line (Some (site_lines.Known slot bag)) g i f same = absurd (cc same)
-          by_line (Some (site_lines.Registered bag)) g (Proposes slot) f same = absurd (cc same)
-          by_line (Some (site_lines.Registered bag)) g (Recovers slot) f same = absurd (cc same)
-          by_line (Some (site_lines.Registered bag)) g (Asks slot member) f same = absurd (cc same)
-          by_line (Some (site_lines.Registered bag)) g (Arrives message) f same = absurd (cc same)
           by_line (Some (site_lines.Registered found)) g (Deposits slot checked) f
               {k = k} {slot = k_slot} {bag = bag} same =
-              at_deposit slot k_slot checked k found bag f g (some_same same)
+              let place : n ≡ k = cc in
+              let slots : slot ≡ k_slot = cc in
+              let bags : found ≡ bag = cc in
+              rw (← place, ← slots, ← bags) (deposit_kept slot checked found f g)
+          by_line _ g _ f same = absurd (cc same)
 
     -- ---- a refusal
 
@@ -376,27 +303,14 @@ module _ {C : Type 0} (device : C → Device) (members : Membership) (s : Scene 
         elim (kept_err device owner old.site.book refl refl recovers e.commits fault new.site.book
         (c.answered refl).keeps) [
           | inl k ↦ stays new k c.volatile D
-          | inr (inl f) ↦ absurd (failed fault f (c.answered refl).keeps (c.answered refl).gives)
-          | inr (inr f) ↦ absurd (unopened fault f (c.answered refl).gives)
+          | inr (inl f) ↦
+              let kept = rw f at (c.answered refl).keeps in
+              let some = rw f at (c.answered refl).gives in
+              let needs = device_needs device owner old.site.book refl refl recovers e.commits
+              new.site.book some kept in
+              absurd (cc (opened, needs))
+          | inr (inr f) ↦ absurd (rw f at (c.answered refl).gives)
         ]
-      where
-        failed : (fault : SiteFault) → fault ≡ faults.Device
-            → Keeps device e.commits (Err fault) old.site.book new.site.book
-            → Gives old.site new.site old.volatile e (Err fault) → ⊥
-        failed fault f keeps gives =
-            let kept : Keeps device e.commits (Err faults.Device) old.site.book new.site.book =
-            subst (λ (f : SiteFault). Keeps device e.commits (Err f) old.site.book new.site.book) f
-            keeps in
-            let some : IsSome e.commits =
-            subst (λ (f : SiteFault). Gives old.site new.site old.volatile e (Err f)) f gives in
-            false≢true (sym opened
-            ∙ device_needs device owner old.site.book refl refl recovers e.commits new.site.book
-            some kept)
-
-        unopened : (fault : SiteFault) → fault ≡ faults.NeedsOpen
-            → Gives old.site new.site old.volatile e (Err fault) → ⊥
-        unopened fault f gives =
-            subst (λ (f : SiteFault). Gives old.site new.site old.volatile e (Err f)) f gives
 
     -- a site that refuses represents what it represented
     pub err_stands : (fault : SiteFault) (new : Serving C)
@@ -409,13 +323,7 @@ module _ {C : Type 0} (device : C → Device) (members : Membership) (s : Scene 
         ∙ device_needs device owner old.site.book refl refl recovers e.commits new.site.book gives
         keeps))
     err_stands faults.NeedsOpen new keeps gives opened = absurd gives
-    err_stands (faults.InvalidBag fault) new keeps gives opened = gives.1
-    err_stands (faults.OtherDeposit bag) new keeps gives opened = gives.1
-    err_stands (faults.OtherKnown bag) new keeps gives opened = gives.1
-    err_stands faults.NoDeposit new keeps gives opened = gives.1
-    err_stands faults.RoundsSpent new keeps gives opened = gives.1
-    err_stands faults.AlreadyKnown new keeps gives opened = gives.1
-    err_stands faults.NothingToRecover new keeps gives opened = gives.1
+    err_stands _ new keeps gives opened = gives.1
 
     -- a call after which the site needs opening met a failing device
     pub failed_by_device : (result : Result Answer SiteFault) (new : Serving C)
@@ -429,7 +337,5 @@ module _ {C : Type 0} (device : C → Device) (members : Membership) (s : Scene 
         (c.answered refl).keeps) [
           | inl k ↦ absurd (false≢true (sym k.opened ∙ needs))
           | inr (inl f) ↦ ap Err f
-          | inr (inr f) ↦
-              absurd (subst (λ (f : SiteFault). Gives old.site new.site old.volatile e (Err f)) f
-              (c.answered refl).gives)
+          | inr (inr f) ↦ absurd (rw f at (c.answered refl).gives)
         ]

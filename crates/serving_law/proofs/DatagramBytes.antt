@@ -1,7 +1,6 @@
 -- The bytes of datagrams are bytes.
-use Rattle.std.proofs.Common.{ℕ, zero, suc, ◌≡◌, ◌<◌, subst, List, [], ◌∷◌}
-use Rattle.std.proofs.Common.{◌++◌}
-use Rattle.std.proofs.Common.{take, Option, None, Some, arith}
+use Rattle.std.proofs.Common.{ℕ, zero, suc, ◌≡◌, ◌<◌, List, [], ◌∷◌, ◌++◌, take, Option, None, Some}
+use Rattle.std.proofs.Common.{arith}
 use Rattle.std.specs.Prelude.{Ok, slice_index}
 use Rattle.std.specs.Int.{w32, w64, to_be_bytes, bytes_high_first, byte_at}
 use Rattle.std.specs.List.{AllByRecursion}
@@ -70,10 +69,7 @@ unfolding check_of
 of_bag facts bag = go (first_fault facts)
   where
     go : (o : Option BagFault) → answer facts o ≡ Ok bag → Bytes bag.0
-    go None e = subst (λ (b : BagId). Bytes b.0) (same e) (of_sha512 _)
-      where
-        same : answer facts None ≡ Ok bag → identity_of facts ≡ bag
-        same e = cc
+    go None e = let same : identity_of facts ≡ bag = cc in rw (← same) (of_sha512 _)
     go (Some fault) e = absurd (cc e)
 
 -- a message's, if its fields' are

@@ -1,21 +1,17 @@
 -- A site dies in the call of a deposit.
-use Rattle.std.proofs.Common.{ℕ, ◌≡◌, ◌≤◌, refl, sym, ap, subst, ◌∙◌, Bool, true, false, cond}
-use Rattle.std.proofs.Common.{List, [], ◌∷◌, ◌++◌, None, Some, arith}
-use Rattle.std.specs.Prelude.{Result, Ok}
+use Rattle.std.proofs.Common.{ℕ, ◌≡◌, ◌≤◌, refl, sym, List, [], ◌∷◌, ◌++◌, None, Some, arith}
+use Rattle.std.specs.Prelude.{Ok}
 use Rattle.fed_types.specs.declared.bag_id.BagId.{BagId}
 use Rattle.fed_types.specs.Lists.{Has}
-use Rattle.dgram.specs.declared.message.Message.{Message}
 use Rattle.fed_types.specs.Sites.{Membership, members_of, count_of}
-use Rattle.fed_types.specs.Slots.{SlotName, same_slot}
+use Rattle.fed_types.specs.Slots.{SlotName}
 use Rattle.fed_types.specs.Values.{IsMembership}
 use Rattle.fed_types.specs.Laws.Sites.{sites_to_has}
-use Rattle.bag_check.specs.declared.fault.BagFault.{BagFault}
 use Rattle.bag_check.specs.Check.{check_of}
 use Rattle.records.specs.declared.entry.Entry.TheVariants as entry
 use Rattle.records.specs.declared.record.Record.{Record}
 use Rattle.records.specs.Records.{IsRecord, AreRecords}
-use Rattle.records.specs.SlotStates.{known_of, deposit_of, with_one, if_some}
-use Rattle.records.specs.SlotStates.{known_in, earlier}
+use Rattle.records.specs.SlotStates.{known_of, deposit_of}
 use Rattle.records.proofs.SlotStates.{known-push}
 use Rattle.dgram.specs.Heard.{bodies_of, floor_of, voters_for}
 use Rattle.learner.specs.declared.row.Row.TheVariants as rows
@@ -28,22 +24,21 @@ use Rattle.site.specs.Calls.{on_deposit}
 use Rattle.site.specs.Calls as calls
 use Rattle.site.specs.Effects.{Effect}
 use Rattle.site.specs.Sites.{effect}
-use Rattle.site_tables.specs.Contents.{Contents, Represents}
+use Rattle.site.specs.Contents.{Contents, Represents}
 use Rattle.udp_site.specs.Traffic.{From}
-use Rattle.udp_site.specs.Requests as requests
 use Rattle.udp_site.specs.Replies.{deposit_answer}
-use Rattle.udp_site.specs.Turns.{Serving, Done, turn_of, comes_of, notices_of, deposit_replies}
-use Rattle.serving_law.specs.Disks.{Disk, Blank, Holds, bytes_at, journal, device}
+use Rattle.udp_site.specs.Turns.{Serving, Done, turn_of, notices_of, deposit_replies}
+use Rattle.serving_law.specs.Disks.{Disk, Holds, bytes_at, journal, device}
 use Rattle.serving_law.specs.Examples.{recorded, Request}
-use Rattle.serving_law.specs.Federations.{Step, Happening, Starts, Dies, new_federation}
+use Rattle.serving_law.specs.Federations.{Step, Happening, Dies, new_federation}
 use Rattle.serving_law.specs.Rules.{MayAll, MayCome, IsHistory}
 use Rattle.serving_law.proofs.DiskCalls.{owner, serving, called}
 use Rattle.serving_law.proofs.Answers.{answer_of}
-use Rattle.serving_law.proofs.DiskJournals.{holds, says}
+use Rattle.serving_law.proofs.DiskJournals.{says}
 use Rattle.serving_law.proofs.Replies.{checked_is}
 use Rattle.serving_law.proofs.Requests.{deposit_is_slot}
-use Rattle.serving_law.proofs.Tables.{records_of, tables, stands, used_by_none}
-use Rattle.serving_law.proofs.NewSites.{may_start}
+use Rattle.serving_law.proofs.Tables.{itself, records_of, tables, stands, used_by_none}
+use Rattle.serving_law.proofs.NewSites.{starts_new, may_start}
 
 module _ (members : Membership) (is_membership : IsMembership members) (slot : SlotName)
     (bag : BagId) where
@@ -57,13 +52,7 @@ module _ (members : Membership) (is_membership : IsMembership members) (slot : S
 
   none_known : known_of slot (r ∷ []) ≡ None
   unfolding known_of
-  none_known = known-push slot [] r ∙ go (same_slot slot slot)
-    where
-      go : (t : Bool)
-          → with_one earlier (known_of slot [])
-          (if_some known_in (cond t (Some (entry.Deposit bag)) None)) ≡ None
-      go true = refl
-      go false = refl
+  none_known = rw (known-push slot [] r, itself slot) refl
 
   pub it_stands : Represents its_tables (records_of slot (entry.Deposit bag ∷ [])) new_volatile
       nothing
@@ -107,8 +96,7 @@ module _ (members : Membership) (is_membership : IsMembership members) (slot : S
     pub effect_is : effect old.site new_volatile (calls.Deposits slot (check_of request.facts))
         ≡ registering
     effect_is =
-        ap (λ (c : Result BagId BagFault). on_deposit [] new_volatile slot c) request.checked
-        ∙ is_registering
+        rw request.checked is_registering
 
     abbrev pub done : Done
     done = record {
@@ -126,14 +114,7 @@ module _ (members : Membership) (is_membership : IsMembership members) (slot : S
     }
 
     pub come : MayCome members [] (From request.address request.bytes)
-    come = (
-      request.are_bytes,
-      λ message e is. absurd (other (sym request.asked ∙ e)),
-    )
-      where
-        other : {message : Message}
-            → requests.Deposits request.address slot request.path ≡ requests.Says message → ⊥
-        other e = cc
+    come = (request.are_bytes, λ message e is. absurd (cc request.asked))
 
     pub is_record : IsRecord r
     is_record = (
@@ -145,9 +126,7 @@ module _ (members : Membership) (is_membership : IsMembership members) (slot : S
     pub comes : turn_of device [] (Some step.folders) old (From request.address request.bytes) done
         new
     comes =
-        subst (λ (q : requests.Request).
-        comes_of device [] (Some step.folders) old q done new)
-        (sym request.asked) (
+        rw request.asked (
           Ok request.facts,
           refl,
           (
@@ -166,12 +145,7 @@ module _ (members : Membership) (is_membership : IsMembership members) (slot : S
     one = sites_to_has (count_of members) 1 (omega arith) is_membership.1.0.0
 
     abbrev pub before : List (Happening Disk)
-    before =
-        Starts 1 Blank (record {
-          book = holds (owner members is_membership 1) [];
-          tables = its_tables;
-        })
-        ∷ []
+    before = starts_new members is_membership 1 its_tables ∷ []
 
     abbrev pub dies : List Record → Happening Disk
     dies records = Dies 1 step records

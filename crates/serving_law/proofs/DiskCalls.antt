@@ -1,6 +1,6 @@
 -- A site over a disk of which all is known is called, and takes a turn.
-use Rattle.std.proofs.Common.{ℕ, ◌≡◌, ◌<◌, ◌^◌, inr, refl, sym, ap, subst, ◌∙◌, List, [], ◌∷◌}
-use Rattle.std.proofs.Common.{◌++◌, length, Option, None, Some}
+use Rattle.std.proofs.Common.{ℕ, ◌≡◌, ◌<◌, ◌^◌, inr, refl, List, [], ◌∷◌, ◌++◌, length, Option}
+use Rattle.std.proofs.Common.{None, Some}
 use Rattle.std.specs.Bool.{⊤}
 use Rattle.std.specs.Prelude.{Result, Ok, Err}
 use Rattle.bag_tree.specs.declared.fault.TreeFault.{TreeFault}
@@ -20,15 +20,15 @@ use Rattle.proposer.specs.UnderWay.{UnderWay}
 use Rattle.site.specs.declared.answer.Answer.{Answer}
 use Rattle.site.specs.declared.answer.Line.{Line}
 use Rattle.site.specs.declared.fault.SiteFault.{SiteFault}
-use Rattle.site.specs.Answered.{IsAnswered, Keeps}
+use Rattle.site.specs.Answered.{Keeps}
 use Rattle.site.specs.Calls.{Input}
 use Rattle.site.specs.Calls as calls
 use Rattle.site.specs.Effects.{Effect}
 use Rattle.site.specs.Sites.{effect}
-use Rattle.site_tables.specs.Contents.{Contents, Represents}
+use Rattle.site.specs.Contents.{Contents, Represents}
 use Rattle.udp_site.specs.Traffic.{Taken, From}
 use Rattle.udp_site.specs.Requests as requests
-use Rattle.udp_site.specs.Turns.{Serving, Done, IsCalled, turn_of, comes_of, notices_of, posts_of}
+use Rattle.udp_site.specs.Turns.{Serving, Done, IsCalled, turn_of, notices_of, posts_of}
 use Rattle.serving_law.specs.Disks.{Disk, device}
 use Rattle.serving_law.specs.Federations.{Step}
 use Rattle.serving_law.proofs.DiskJournals.{holds, commits}
@@ -55,8 +55,7 @@ module _ (members : Membership) (is_membership : IsMembership members) (n : ℕ)
   abbrev pub owner : Owner
   owner = record { members = members; site = n }
 
-  abbrev pub serving :
-      List Record → Contents → VolatileState → (idle tried : ℕ) → Serving Disk
+  abbrev pub serving : List Record → Contents → VolatileState → (idle tried : ℕ) → Serving Disk
   serving records tables volatile idle tried = record {
     site = record { book = holds owner records; tables = tables };
     volatile = volatile;
@@ -68,8 +67,7 @@ module _ (members : Membership) (is_membership : IsMembership members) (n : ℕ)
       → (answer : Answer)
       → Keeps device c (Ok answer) (holds owner records) (holds owner (kept records c))
   keeps records are None is answer = refl
-  keeps records are (Some r) is answer =
-      inr (commits owner is_membership.1 records are r is)
+  keeps records are (Some r) is answer = inr (commits owner is_membership.1 records are r is)
 
   -- a call answers as the definitions say
   module _ (records : List Record) (are : AreRecords records) (tables then : Contents)
@@ -90,13 +88,12 @@ module _ (members : Membership) (is_membership : IsMembership members) (n : ℕ)
     pub called : IsCalled device old input (Ok answer) new
     called = record {
       answered = λ opened.
-          subst (λ (f : Effect). IsAnswered device old.site new.site volatile f (Ok answer))
-          (sym is) (record {
+          rw is (record {
             keeps = keeps records are e.commits keep answer;
             gives = (says, seals_are members.federation e.sends ms, (under, stands));
           });
       refused = λ needs. absurd (cc needs);
-      volatile = ap (λ (f : Effect). f.volatile) (sym is);
+      volatile = rw is refl;
       idle = refl;
       tried = refl;
     }
@@ -121,15 +118,11 @@ module _ (members : Membership) (is_membership : IsMembership members) (n : ℕ)
   }
 
   pub hears : (addresses : List ℕ) (records : List Record) (tables : Contents)
-      (volatile : VolatileState)
-      (idle tried : ℕ) (next : Serving Disk) (m : Message) → IsMessage m
+      (volatile : VolatileState) (idle tried : ℕ) (next : Serving Disk) (m : Message) → IsMessage m
       → requests.request_by 0 m m.body ≡ requests.Says m → (answer : Answer)
       → IsCalled device (serving records tables volatile idle tried) (calls.Arrives (Some m))
       (Ok answer) next
       → turn_of device addresses (Some no_folders) (serving records tables volatile idle tried)
       (from_site m) (heard_done addresses m answer) next
   hears addresses records tables volatile idle tried next m is says answer call =
-      subst (λ (q : requests.Request). comes_of device addresses (Some no_folders)
-      (serving records tables volatile idle tried) q (heard_done addresses m answer) next)
-      (sym (ap (requests.request_in 0) (message_of-again members.federation m is) ∙ says))
-      (Ok answer, call, refl)
+      rw (message_of-again members.federation m is, says) (Ok answer, call, refl)

@@ -1,11 +1,11 @@
 -- A disk of which all is known: a site's book is opened on it, and commits a record.
-use Rattle.std.proofs.Common.{ℕ, zero, suc, ◌≡◌, ◌⊎◌, ◌≤◌, inl, inr, refl, sym, ap, subst, ◌∙◌}
-use Rattle.std.proofs.Common.{false, List, [], ◌∷◌, ◌++◌, Some, arith, length, length-append}
+use Rattle.std.proofs.Common.{ℕ, zero, suc, ◌≡◌, ◌⊎◌, ◌≤◌, inl, inr, refl, sym, ap, ◌∙◌, false}
+use Rattle.std.proofs.Common.{List, [], ◌∷◌, ◌++◌, Some, arith, length, length-append}
 use Rattle.std.specs.Prelude.{Ok}
 use Rattle.std.proofs.lemmas.Bool.{cases_lt}
 use Rattle.std.proofs.lemmas.List.{append-nil, take_all, take-append-le}
 use Rattle.fed_types.specs.Sites.{AreWeights}
-use Rattle.cell_device.specs.Images.{Image, Leaves, at_rest}
+use Rattle.cell_device.specs.Images.{Leaves, at_rest}
 use Rattle.records.specs.declared.owner.Owner.{Owner}
 use Rattle.records.specs.declared.record.Record.{Record}
 use Rattle.records.specs.Journals.{DecodesTo}
@@ -15,11 +15,10 @@ use Rattle.records.specs.Starts.{New}
 use Rattle.records.specs.Texts.{IsTextOf}
 use Rattle.records.proofs.Texts.{text_says, nothing_says, whole-push}
 use Rattle.records.proofs.OneReading.{one_saying}
-use Rattle.book.specs.Opened.{said_as_answer}
+use Rattle.book.specs.Opened.{said_as_answer, Opens}
 use Rattle.book.specs.OpenBooks.{OpenBook, LeavesText, RecoversTo}
 use Rattle.book.proofs.AtRest.{keeps_same}
 use Rattle.book.specs.Committed.{Commits}
-use Rattle.book.specs.Opened.{Opens}
 use Rattle.serving_law.specs.Disks.{Disk, Blank, Holds, journal, bytes_at, bytes_on, device}
 use Rattle.serving_law.specs.Disks.{moment_of, left_on, AreLikeCells}
 
@@ -45,8 +44,7 @@ of_none owner (r ∷ records) e = absurd (cc e)
 at_end : (owner : Owner) (records : List Record) (k : ℕ) → suc (length records) ≤ k
     → bytes_at (Holds owner records) k ≡ journal owner records
 at_end owner records zero le = absurd (omega (arith, le))
-at_end owner records (suc j) le =
-    ap (λ (rs : List Record). journal owner rs) (take_all j records (omega (arith, le)))
+at_end owner records (suc j) le = rw (take_all j records (omega (arith, le))) refl
 
 -- what is there now was there at this moment
 is_now : (disk : Disk) → bytes_at disk (moment_of disk) ≡ bytes_on disk
@@ -56,8 +54,8 @@ is_now (Holds owner records) = at_end owner records (suc (length records)) (omeg
 pub are_like_cells : AreLikeCells
 are_like_cells = record {
   seen_now = λ disk i e.
-      subst (λ (j : Image). Leaves j j.seen) (some_is (at_rest (bytes_on disk)) i e)
-      (0, sym (keeps_same 0 (bytes_on disk)));
+      let same : at_rest (bytes_on disk) ≡ i = cc in
+      rw (← same) (0, sym (keeps_same 0 (bytes_on disk)));
   counts_now = λ disk t bytes le left. (
     moment_of disk,
     le,
@@ -66,16 +64,10 @@ are_like_cells = record {
   );
   only_now = λ disk bytes left. (
     0,
-    left.3 ∙ ap (λ (k : ℕ). bytes_at disk k) (one left.0 (moment_of disk) left.1 left.2)
-        ∙ is_now disk ∙ sym (keeps_same 0 (bytes_on disk)),
+    let one : left.0 ≡ moment_of disk = omega (arith, left.1, left.2) in
+        cc (left.3, one, is_now disk, keeps_same 0 (bytes_on disk)),
   );
 }
-  where
-    some_is : (i j : Image) → Some i ≡ Some j → i ≡ j
-    some_is i j e = cc
-
-    one : (k n : ℕ) → n ≤ k → k ≤ n → k ≡ n
-    one k n from to = omega (arith, from, to)
 
 -- what was there before a record was added
 at_before : (owner : Owner) (records : List Record) (r : Record) (k : ℕ)
@@ -83,8 +75,7 @@ at_before : (owner : Owner) (records : List Record) (r : Record) (k : ℕ)
     → bytes_at (Holds owner (records ++ r ∷ [])) k ≡ bytes_at (Holds owner records) k
 at_before owner records r zero le = refl
 at_before owner records r (suc j) le =
-    ap (λ (rs : List Record). journal owner rs)
-    (take-append-le j records (r ∷ []) (omega (arith, le)))
+    rw (take-append-le j records (r ∷ []) (omega (arith, le))) refl
 
 module _ (owner : Owner) (are_weights : AreWeights owner.members.weights) where
   pub text : (records : List Record) → AreRecords records
@@ -107,16 +98,13 @@ module _ (owner : Owner) (are_weights : AreWeights owner.members.weights) where
 
   leaves_text : (records : List Record) → AreRecords records
       → LeavesText owner records (Some (at_rest (journal owner records)))
-  leaves_text records are =
-      (text records are, λ c l. at_rest_leaves (journal owner records) c l)
+  leaves_text records are = (text records are, λ c l. at_rest_leaves (journal owner records) c l)
 
   recovers : (records : List Record) → AreRecords records
       → RecoversTo owner records (Some (at_rest (journal owner records)))
   recovers records are = (
     says records are,
-    λ c l.
-        subst (λ (b : List ℕ). DecodesTo owner b (Ok records))
-        (sym (at_rest_leaves (journal owner records) c l)) (says records are),
+    λ c l. rw (at_rest_leaves (journal owner records) c l) (says records are),
   )
 
   -- ---- a disk is opened: a new one,
@@ -143,17 +131,9 @@ module _ (owner : Owner) (are_weights : AreWeights owner.members.weights) where
       alike : (c : List ℕ) (k : ℕ) → k ≤ 1 → c ≡ bytes_at (Holds owner []) k
           → (records : List Record) × DecodesTo owner [] (Ok records) × DecodesTo owner c
           (Ok records)
-      alike c zero le e = (
-        [],
-        nothing_says owner,
-        subst (λ (b : List ℕ). DecodesTo owner b (Ok [])) (sym e) (nothing_says owner),
-      )
-      alike c (suc j) le e = (
-        [],
-        nothing_says owner,
-        subst (λ (b : List ℕ). DecodesTo owner b (Ok []))
-            (sym (e ∙ at_end owner [] (suc j) (omega arith))) (says [] tt),
-      )
+      alike c zero le e = ([], nothing_says owner, rw e (nothing_says owner))
+      alike c (suc j) le e =
+          ([], nothing_says owner, rw (e, at_end owner [] (suc j) (omega arith)) (says [] tt))
 
   -- and one that has the owner's journal
 
@@ -172,8 +152,7 @@ module _ (owner : Owner) (are_weights : AreWeights owner.members.weights) where
       each = λ c left. inr (
         records,
         says records are,
-        subst (λ (b : List ℕ). DecodesTo owner b (Ok records))
-            (sym (left.3 ∙ at_end owner records left.0 left.1)) (says records are),
+        rw (left.3, at_end owner records left.0 left.1) (says records are),
       );
       before = λ t c within left. inl left;
     };
@@ -194,27 +173,19 @@ module _ (owner : Owner) (are_weights : AreWeights owner.members.weights) where
         → DecodesTo owner c (Ok records) ⊎ DecodesTo owner c (Ok more)
     with_or_without c k ge e = elim (cases_lt k (suc (suc (length records)))) [
       | inl lt ↦
-          inl (subst (λ (b : List ℕ). DecodesTo owner b (Ok records))
-          (sym (e ∙ at_before owner records r k (omega arith)
-          ∙ at_end owner records k ge)) (says records are))
+          inl (rw (e, at_before owner records r k (omega arith), at_end owner records k ge)
+          (says records are))
       | inr le ↦
-          inr (subst (λ (b : List ℕ). DecodesTo owner b (Ok more))
-          (sym (e ∙ at_end owner more k (omega (arith, le, length-append records (r ∷ [])))))
+          inr (rw (e, at_end owner more k (omega (arith, le, length-append records (r ∷ []))))
           (says more (whole-push records r are is)))
     ]
 
     since_then : (t : ℕ) (c : List ℕ) → t ≤ suc (length records)
-        → left_on (Holds owner more) t c
-        → left_on (Holds owner records) t c
+        → left_on (Holds owner more) t c → left_on (Holds owner records) t c
         ⊎ (DecodesTo owner c (Ok records) ⊎ DecodesTo owner c (Ok more))
     since_then t c within left = elim (cases_lt left.0 (suc (suc (length records)))) [
       | inl lt ↦
-          inl (
-            left.0,
-            left.1,
-            omega arith,
-            left.3 ∙ at_before owner records r left.0 (omega arith),
-          )
+          inl (left.0, left.1, omega arith, left.3 ∙ at_before owner records r left.0 (omega arith))
       | inr le ↦ inr (with_or_without c left.0 (omega arith) left.3)
     ]
 

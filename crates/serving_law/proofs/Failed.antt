@@ -1,6 +1,5 @@
 -- A site whose device fails in a deposit.
-use Rattle.std.proofs.Common.{ℕ, ◌≡◌, ◌≤◌, inr, refl, sym, subst, Bool, true, false}
-use Rattle.std.proofs.Common.{List, [], ◌∷◌, Some, arith}
+use Rattle.std.proofs.Common.{ℕ, ◌≡◌, ◌≤◌, inr, refl, Bool, true, false, List, [], ◌∷◌, Some, arith}
 use Rattle.std.specs.Prelude.{Ok, Err}
 use Rattle.fed_types.specs.declared.bag_id.BagId.{BagId}
 use Rattle.fed_types.specs.Sites.{Membership}
@@ -17,15 +16,11 @@ use Rattle.book.specs.declared.fault.CommitFault.TheVariants as commit_faults
 use Rattle.book.specs.Committed.{Commits}
 use Rattle.book.specs.Opened.{Opens}
 use Rattle.site.specs.declared.fault.SiteFault.TheVariants as faults
-use Rattle.site.specs.Answered.{IsAnswered}
 use Rattle.site.specs.Calls as calls
-use Rattle.site.specs.Effects.{Effect}
 use Rattle.site.specs.Sites.{OpenSite}
-use Rattle.udp_site.specs.Requests as requests
 use Rattle.udp_site.specs.Replies.{deposit_answer}
 use Rattle.udp_site.specs.Traffic.{From}
-use Rattle.udp_site.specs.Turns.{Serving, Done, IsCalled, turn_of, comes_of, notices_of}
-use Rattle.udp_site.specs.Turns.{deposit_replies}
+use Rattle.udp_site.specs.Turns.{Serving, Done, IsCalled, turn_of, notices_of, deposit_replies}
 use Rattle.serving_law.specs.Disks.{Disk, Blank, Holds, bytes_at, journal, device}
 use Rattle.serving_law.specs.Examples.{Request, recorded}
 use Rattle.serving_law.specs.ExamplesFailed.{WornDisk, worn_device, HasFailed, FailsInADeposit}
@@ -62,8 +57,7 @@ module _ (members : Membership) (is_membership : IsMembership members) (slot : S
 
   -- what opens the disk opens it
   opens : (disk : Disk) (records : List Record)
-      → Opens device owner disk (Ok (holds owner records))
-      → Opens worn_device owner (whole disk)
+      → Opens device owner disk (Ok (holds owner records)) → Opens worn_device owner (whole disk)
       (Ok (site_of (whole (Holds owner records)) records false).book)
   opens disk records o = record {
     records = o.records;
@@ -116,8 +110,7 @@ module _ (members : Membership) (is_membership : IsMembership members) (slot : S
       (Err faults.Device) new
   called = record {
     answered = λ opened.
-        subst (λ (e : Effect). IsAnswered worn_device old.site new.site new_volatile e
-        (Err faults.Device)) (sym (effect_is members is_membership slot bag request))
+        rw (effect_is members is_membership slot bag request)
         (record { keeps = inr fails_so; gives = refl });
     refused = λ needs. absurd (cc needs);
     volatile = refl;
@@ -144,9 +137,7 @@ module _ (members : Membership) (is_membership : IsMembership members) (slot : S
   comes : turn_of worn_device [] (Some step.folders) old (From request.address request.bytes) done
       new
   comes =
-      subst (λ (q : requests.Request).
-      comes_of worn_device [] (Some step.folders) old q done new)
-      (sym request.asked) (Ok request.facts, refl, (Err faults.Device, called, refl))
+      rw request.asked (Ok request.facts, refl, (Err faults.Device, called, refl))
 
   -- ---- the histories
 
@@ -169,10 +160,7 @@ module _ (members : Membership) (is_membership : IsMembership members) (slot : S
         (
           old,
           (one members is_membership slot bag request, refl),
-          record {
-            may_come = come members is_membership slot bag request;
-            comes = comes;
-          },
+          record { may_come = come members is_membership slot bag request; comes = comes },
           refl,
           record {
             told = refl;

@@ -1,21 +1,17 @@
 -- A site that takes a message that nobody has sent.
-use Rattle.std.proofs.Common.{◌≡◌, ◌≤◌, refl, sym, ap, subst, ◌∙◌, Bool, true, false, cond}
-use Rattle.std.proofs.Common.{[], ◌∷◌, None, Some, arith}
+use Rattle.std.proofs.Common.{◌≡◌, ◌≤◌, refl, sym, true, [], ◌∷◌, None, Some, arith}
 use Rattle.std.specs.Prelude.{Ok}
 use Rattle.fed_types.specs.declared.bag_id.BagId.{BagId}
 use Rattle.fed_types.specs.Lists.{Has, here, there}
 use Rattle.fed_types.specs.Sites.{Membership, members_of, count_of}
-use Rattle.fed_types.specs.Slots.{SlotName, same_slot}
+use Rattle.fed_types.specs.Slots.{SlotName}
 use Rattle.fed_types.specs.Values.{IsMembership, IsSlot, IsBag}
 use Rattle.fed_types.specs.Laws.Sites.{sites_to_has}
-use Rattle.fed_types.specs.Laws.Slots.{same_slot_decides}
-use Rattle.fed_types.specs.Laws.Lists.{is_in_decides}
+use Rattle.fed_types.specs.Laws.Lists.{is_in_decides, has_none}
 use Rattle.fed_types.specs.Quorums.{quorums_of}
-use Rattle.std.specs.List.{cons_option}
 use Rattle.records.specs.declared.entry.Entry.TheVariants as entry
 use Rattle.records.specs.declared.record.Record.{Record}
-use Rattle.records.specs.SlotStates.{known_of, with_one, if_some}
-use Rattle.records.specs.SlotStates.{known_in, earlier}
+use Rattle.records.specs.SlotStates.{known_of}
 use Rattle.records.proofs.SlotStates.{known-push}
 use Rattle.dgram.specs.declared.body.Body.TheVariants.{Known}
 use Rattle.dgram.specs.declared.message.Message.{Message}
@@ -31,18 +27,17 @@ use Rattle.site.specs.Arrivals.{on_arrival, on_body, is_member}
 use Rattle.site.specs.Calls as calls
 use Rattle.site.specs.Effects.{Effect}
 use Rattle.site.specs.Sites.{effect}
-use Rattle.site_tables.specs.Contents.{Contents, Represents}
+use Rattle.site.specs.Contents.{Contents, Represents}
 use Rattle.udp_site.specs.Turns.{Serving, turn_of}
-use Rattle.serving_law.specs.Disks.{Disk, Blank, device}
+use Rattle.serving_law.specs.Disks.{Disk, device}
 use Rattle.serving_law.specs.Examples.{IsFooled, FooledByAForgedKnown}
-use Rattle.serving_law.specs.Federations.{Step, Happening, Starts, new_federation, after_all}
+use Rattle.serving_law.specs.Federations.{Step, Happening, new_federation, after_all}
 use Rattle.serving_law.specs.Rules.{MayAll}
 use Rattle.serving_law.specs.Reports.{step_of}
-use Rattle.serving_law.proofs.DiskCalls.{owner, serving, called, hears, heard_step, no_folders}
+use Rattle.serving_law.proofs.DiskCalls.{serving, called, hears, heard_step, no_folders}
 use Rattle.serving_law.proofs.Answers.{answer_of}
-use Rattle.serving_law.proofs.DiskJournals.{holds}
-use Rattle.serving_law.proofs.Tables.{records_of, tables, stands, used_by_none}
-use Rattle.serving_law.proofs.NewSites.{may_start}
+use Rattle.serving_law.proofs.Tables.{itself, records_of, tables, stands, used_by_none}
+use Rattle.serving_law.proofs.NewSites.{starts_new, may_start}
 
 module _ (members : Membership) (is_membership : IsMembership members) (two : 2 ≤ count_of members)
     (slot : SlotName) (is_slot : IsSlot slot) (bag : BagId) (is_bag : IsBag bag) where
@@ -59,19 +54,11 @@ module _ (members : Membership) (is_membership : IsMembership members) (two : 2 
 
   no_floor : floor_of (bodies_of slot (m ∷ [])) ≡ 0
   unfolding floor_of bodies_of
-  no_floor = go (same_slot slot slot)
-    where
-      go : (t : Bool) → floor_of (cons_option (cond t (Some m.body) None) []) ≡ 0
-      go true = refl
-      go false = refl
+  no_floor = rw (itself slot) refl
 
   known_is : known_of slot (r ∷ []) ≡ Some bag
   unfolding known_of
-  known_is =
-      known-push slot [] r
-      ∙ ap (λ (t : Bool). with_one earlier (known_of slot [])
-      (if_some known_in (cond t (Some (entry.Known bag)) None)))
-      ((same_slot_decides slot slot).1 refl)
+  known_is = rw (known-push slot [] r, itself slot) refl
 
   abbrev before_tables : Contents
   before_tables = tables slot members 1 (record { own = empty_row; heard = rows.Unheard })
@@ -79,8 +66,7 @@ module _ (members : Membership) (is_membership : IsMembership members) (two : 2 
   abbrev after_tables : Contents
   after_tables = tables slot members 1 (record { own = empty_row; heard = rows.Known bag })
 
-  it_stands : Represents after_tables (records_of slot (entry.Known bag ∷ [])) heard
-      nothing
+  it_stands : Represents after_tables (records_of slot (entry.Known bag ∷ [])) heard nothing
   it_stands =
       stands slot members 1 (entry.Known bag ∷ []) (Known 2 bag ∷ []) heard refl (λ s f. refl)
       (record { own = empty_row; heard = rows.Known bag })
@@ -91,11 +77,7 @@ module _ (members : Membership) (is_membership : IsMembership members) (two : 2 
         current = tt;
         waiting = refl;
       })
-      (sym known_is)
-      (λ none vote n. absurd (not_none (sym known_is ∙ none)))
-    where
-      not_none : Some bag ≡ None → ⊥
-      not_none e = cc
+      (sym known_is) (λ none vote n. absurd (cc (known_is, none)))
 
   -- ---- the call
 
@@ -115,8 +97,7 @@ module _ (members : Membership) (is_membership : IsMembership members) (two : 2 
 
   member : is_member (quorums_of members) (Some 2) ≡ true
   member =
-      (is_in_decides (members_of members) 2).1
-      (sites_to_has (count_of members) 2 (omega arith) two)
+      (is_in_decides (members_of members) 2).1 (sites_to_has (count_of members) 2 (omega arith) two)
 
   effect_is : effect old.site new_volatile (calls.Arrives (Some m)) ≡ learning
   unfolding on_arrival on_body known_of
@@ -134,8 +115,7 @@ module _ (members : Membership) (is_membership : IsMembership members) (two : 2 
   comes : turn_of device [] (Some no_folders) old step.turn.took step.turn.done new
   comes =
       hears members is_membership 1 [] [] before_tables new_volatile 0 0 new m is_message refl
-      answer
-      (called members is_membership 1 [] tt before_tables after_tables new_volatile 0 0
+      answer (called members is_membership 1 [] tt before_tables after_tables new_volatile 0 0
       (calls.Arrives (Some m)) learning (Some (site_lines.Known slot bag)) effect_is refl
       (is_slot, is_bag) tt (omega arith) nothing it_stands)
 
@@ -143,27 +123,17 @@ module _ (members : Membership) (is_membership : IsMembership members) (two : 2 
   one = sites_to_has (count_of members) 1 (omega arith) is_membership.1.0.0
 
   abbrev starts : Happening Disk
-  starts =
-      Starts 1 Blank (record {
-        book = holds (owner members is_membership 1) [];
-        tables = before_tables;
-      })
+  starts = starts_new members is_membership 1 before_tables
 
   no_turn : (h : Happening Disk) → Has h (starts ∷ []) → step_of h ≡ None
-  no_turn h (here e) = subst (λ (g : Happening Disk). step_of g ≡ None) e refl
-  no_turn h (there other) = absurd (none h other)
-    where
-      none : (g : Happening Disk) → Has g [] → ⊥
-      none g h = elim h [ ]
+  no_turn h (here e) = rw (← e) refl
+  no_turn h (there other) = absurd (has_none other)
 
   pub fooled : IsFooled members slot bag
   unfolding MayAll new_federation after_all
   fooled = record {
     before = starts ∷ [];
-    happens = (
-      may_start members is_membership 1 before_tables new_federation one refl,
-      tt,
-    );
+    happens = (may_start members is_membership 1 before_tables new_federation one refl, tt);
     no_turn = no_turn;
     nothing = refl;
     old = old;

@@ -1,6 +1,5 @@
 -- Every history represents a network, in which all that was reported is chosen.
-use Rattle.std.proofs.Common.{ℕ, ◌≡◌, ◌⊎◌, inl, inr, refl, sym, ap, subst}
-use Rattle.std.proofs.Common.{List, [], ◌∷◌, ◌++◌, Option}
+use Rattle.std.proofs.Common.{ℕ, ◌≡◌, ◌⊎◌, inl, inr, refl, ap, List, [], ◌∷◌, ◌++◌, Option}
 use Rattle.std.specs.Prelude.{Result}
 use Rattle.bag_tree.specs.declared.fault.TreeFault.{TreeFault}
 use Rattle.bag_tree.specs.Facts.{TreeFacts}
@@ -15,7 +14,6 @@ use Rattle.fed_types.specs.Laws.Quorums.{are_quorums}
 use Rattle.cell_device.specs.Devices.{Device}
 use Rattle.records.specs.declared.entry.Entry.{Entry}
 use Rattle.records.specs.declared.entry.Entry.TheVariants as entry
-use Rattle.records.specs.declared.record.Record.{Record}
 use Rattle.records.specs.Bounds.{HasEntry}
 use Rattle.world_law.specs.Laws.{IsChosen}
 use Rattle.world_law.specs.Networks.{Network, new_network, new_site}
@@ -35,8 +33,8 @@ use Rattle.serving_law.specs.Reports.{Reports, Registers, SaysKnown, IsDeposit, 
 use Rattle.serving_law.specs.Rules.{May, MayAll, MayCome, IsServing, Takes}
 use Rattle.serving_law.proofs.Scene.{OnlyNow}
 use Rattle.serving_law.proofs.Networks.{quorums, HasDeposit, HasKnown, Stands}
-use Rattle.serving_law.proofs.Happenings.{Went, went, records_are, goes_on, stands_then}
-use Rattle.serving_law.proofs.Happenings.{HasFolders, with_folders}
+use Rattle.serving_law.proofs.Happenings.{Went, went, records_are, goes_on, stands_then, HasFolders}
+use Rattle.serving_law.proofs.Happenings.{with_folders}
 
 grows_then : {w x y : Network} → Grows w x → Grows x y → Grows w y
 grows_then g h = record {
@@ -89,25 +87,19 @@ module _ {C : Type 0} (device : C → Device) (members : Membership)
       reported : (g : Happening C) → Has g (h ∷ history) → (slot : SlotName) (bag : BagId)
           → Reports members.federation g slot bag → IsChosen q rest.x slot bag
       reported g (here e) slot bag r =
-          chosen_grows (grows_then first.grows rest.grows)
-          (first.reports slot bag
-          (subst (λ (g : Happening C). Reports members.federation g slot bag) (sym e) r))
+          chosen_grows (grows_then first.grows rest.grows) (first.reports slot bag (rw (← e) at r))
       reported g (there has) slot bag r = rest.reports g has slot bag r
 
       registered : (g : Happening C) → Has g (h ∷ history) → (n : ℕ) (slot : SlotName) (bag : BagId)
           → Registers members.federation g n slot bag → HasDeposit rest.x n slot bag
       registered g (here e) n slot bag r =
-          rest.grows.kept n slot (entry.Deposit bag)
-          (first.registers n slot bag
-          (subst (λ (g : Happening C). Registers members.federation g n slot bag) (sym e) r))
+          rest.grows.kept n slot (entry.Deposit bag) (first.registers n slot bag (rw (← e) at r))
       registered g (there has) n slot bag r = rest.registers g has n slot bag r
 
       known : (g : Happening C) → Has g (h ∷ history) → (n : ℕ) (slot : SlotName) (bag : BagId)
           → SaysKnown members.federation g n slot bag → HasKnown rest.x n slot bag
       known g (here e) n slot bag r =
-          rest.grows.kept n slot (entry.Known bag)
-          (first.knows n slot bag
-          (subst (λ (g : Happening C). SaysKnown members.federation g n slot bag) (sym e) r))
+          rest.grows.kept n slot (entry.Known bag) (first.knows n slot bag (rw (← e) at r))
       known g (there has) n slot bag r = rest.knows g has n slot bag r
 
       made_now : (slot : SlotName) (bag : BagId) → IsDeposit members.federation f h slot bag
@@ -176,9 +168,6 @@ module _ {C : Type 0} (device : C → Device) (members : Membership)
         → Led new_federation history new_network
     from_new history may = led history new_federation new_network new_stands may
 
-    laws : AreQuorums q
-    laws = are_quorums members
-
     -- a history, and one happening after it
     may_split : (before : List (Happening C)) (h : Happening C) (later : List (Happening C))
         (f : Federation C) → MayAll device members f (before ++ h ∷ later)
@@ -189,128 +178,76 @@ module _ {C : Type 0} (device : C → Device) (members : Membership)
         let rest = may_split before h later (after f g) may.1 in
         ((may.0, rest.0), rest.1)
 
-    agree : (history : List (Happening C)) (g h : Happening C) (slot : SlotName) (u v : BagId)
-        → MayAll device members new_federation history → Has g history → Has h history
-        → Reports members.federation g slot u → Reports members.federation h slot v → u ≡ v
-    agree history g h slot u v may i j r s =
-        let l = from_new history may in
-        chosen_once q l.x laws l.stands.kept slot u v (l.reports g i slot u r)
-        (l.reports h j slot v s)
-
-    deposited : (before later : List (Happening C)) (h : Happening C) (slot : SlotName)
-        (bag : BagId)
-        → MayAll device members new_federation (before ++ h ∷ later)
-        → Reports members.federation h slot bag → WasDeposited members.federation before slot bag
-    deposited before later h slot bag may r =
-        chosen_came q laws l.x l.stands.kept (WasDeposited members.federation before) made slot bag
-        (next.reports slot bag r)
-      where
-        l : Led new_federation before new_network
-        l = from_new before (may_split before h later new_federation may).0
-
-        next : Went device members is_membership only_now (after_all new_federation before) h l.x
-        next =
-            went device members is_membership only_now (after_all new_federation before) l.x
-            l.stands h (may_split before h later new_federation may).1
-
-        made : (n : ℕ) (slot : SlotName) (bag : BagId) → HasDeposit l.x n slot bag
-            → WasDeposited members.federation before slot bag
-        made n slot bag d = elim (l.deposits n slot bag d) [
-          | inl old ↦ absurd (none_new n slot bag old)
-          | inr m ↦ record {
-            before = m.before;
-            happening = m.happening;
-            later = m.later;
-            split = m.split;
-            is = m.is;
-          }
-        ]
-
-    taken : (history : List (Happening C)) (n : ℕ) (old next : Serving C) (addresses : List ℕ)
-        (gives : Option (List ℕ → Result TreeFacts TreeFault)) (turn : Turned)
-        → MayAll device members new_federation history
-        → IsServing device members (after_all new_federation history) n old
-        → MayCome members (after_all new_federation history).handed turn.took
-        → turn_of device addresses gives old turn.took turn.done next
-        → IsStep device members history old next addresses gives turn
-    taken history n old next addresses gives turn may serving come comes = (
-      folders.0,
-      folders.1,
-      takes,
-      λ not_last.
-          goes_on device members is_membership only_now (after_all new_federation history) l.x
-          l.stands n serving.0 old serving.1 step takes not_last,
-      λ before.
-          stands_then device members is_membership only_now (after_all new_federation history) l.x
-          l.stands n serving.0 old serving.1 step takes before,
-    )
-      where
-        l : Led new_federation history new_network
-        l = from_new history may
-
-        folders : HasFolders device addresses gives old next turn.done
-            (request_of (turns.members old).federation turn.took)
-        folders = with_folders device addresses old next turn.done gives _ comes
-
-        step : Step C
-        step = record { addresses = addresses; folders = folders.0; turn = turn; next = next }
-
-        takes : Takes device members (after_all new_federation history) old step
-        takes = record { may_come = come; comes = folders.2 }
+    made : (history : List (Happening C)) (l : Led new_federation history new_network) (n : ℕ)
+        (slot : SlotName) (bag : BagId) → HasDeposit l.x n slot bag
+        → WasDeposited members.federation history slot bag
+    made history l n slot bag d = elim (l.deposits n slot bag d) [
+      | inl old ↦ absurd (none_new n slot bag old)
+      | inr m ↦ record {
+        before = m.before;
+        happening = m.happening;
+        later = m.later;
+        split = m.split;
+        is = m.is;
+      }
+    ]
 
     -- what is on record in the network is so in the federation
     on_record : (history : List (Happening C)) (l : Led new_federation history new_network) (n : ℕ)
         (slot : SlotName) (e : Entry) → HasEntry slot (l.x.sites n).records e
         → HasEntry slot (records_of ((after_all new_federation history).members n)) e
     on_record history l n slot e h =
-        subst (λ (rs : List Record). HasEntry slot rs e)
-        (sym (records_are device members is_membership only_now n
-        ((after_all new_federation history).members n) (l.x.sites n) (l.stands.is n))) h
-
-    stays : (before later : List (Happening C)) (h : Happening C) (n : ℕ) (slot : SlotName)
-        (bag : BagId) → MayAll device members new_federation (before ++ h ∷ later)
-        → Registers members.federation h n slot bag
-        → HasEntry slot
-        (records_of ((after_all new_federation (before ++ h ∷ later)).members n))
-        (entry.Deposit bag)
-    stays before later h n slot bag may r =
-        let l = from_new (before ++ h ∷ later) may in
-        on_record (before ++ h ∷ later) l n slot (entry.Deposit bag)
-        (l.registers h (has_right before (here refl)) n slot bag r)
-
-    known_then : (before later : List (Happening C)) (h : Happening C) (n : ℕ) (slot : SlotName)
-        (bag : BagId) → MayAll device members new_federation (before ++ h ∷ later)
-        → SaysKnown members.federation h n slot bag
-        → HasEntry slot
-        (records_of ((after_all new_federation (before ++ h ∷ later)).members n))
-        (entry.Known bag)
-    known_then before later h n slot bag may r =
-        let l = from_new (before ++ h ∷ later) may in
-        on_record (before ++ h ∷ later) l n slot (entry.Known bag)
-        (l.knows h (has_right before (here refl)) n slot bag r)
+        rw (records_are device members is_membership only_now n
+        ((after_all new_federation history).members n) (l.x.sites n) (l.stands.is n)) h
 
 -- ---- the laws
 
-module _ {C : Type 0} (device : C → Device) (members : Membership)
-    (only_now : OnlyNow device)
-  where
-    pub reports_agree : ReportsAgree device members
-    reports_agree history g h slot u v is may i j r s =
-        agree device members is only_now history g h slot u v may i j r s
+module _ {C : Type 0} (device : C → Device) (members : Membership) (only_now : OnlyNow device) where
+  abbrev its_quorums : QuorumSystem
+  its_quorums = quorums device members
 
-    pub reports_were_deposited : ReportsWereDeposited device members
-    reports_were_deposited before later h slot bag is may r =
-        deposited device members is only_now before later h slot bag may r
+  pub reports_agree : ReportsAgree device members
+  reports_agree history g h slot u v is may i j r s =
+      let l = from_new device members is only_now history may in
+      chosen_once its_quorums l.x (are_quorums members) l.stands.kept slot u v
+      (l.reports g i slot u r) (l.reports h j slot v s)
 
-    pub turns_may_happen : TurnsMayHappen device members
-    turns_may_happen history n old next addresses gives turn is may serving come comes =
-        taken device members is only_now history n old next addresses gives turn may serving come
-        comes
+  pub reports_were_deposited : ReportsWereDeposited device members
+  reports_were_deposited before later h slot bag is may r =
+      let split = may_split device members is only_now before h later new_federation may in
+      let l = from_new device members is only_now before split.0 in
+      let next = went device members is only_now (after_all new_federation before) l.x l.stands h
+      split.1 in
+      chosen_came its_quorums (are_quorums members) l.x l.stands.kept
+      (WasDeposited members.federation before) (made device members is only_now before l) slot bag
+      (next.reports slot bag r)
 
-    pub registered_stays : RegisteredStays device members
-    registered_stays before later h n slot bag is may r =
-        stays device members is only_now before later h n slot bag may r
+  pub turns_may_happen : TurnsMayHappen device members
+  turns_may_happen history n old next addresses gives turn is may serving come comes =
+      let l = from_new device members is only_now history may in
+      let folders = with_folders device addresses old next turn.done gives
+      (request_of (turns.members old).federation turn.took) comes in
+      let step : Step C =
+      record { addresses = addresses; folders = folders.0; turn = turn; next = next } in
+      let takes : Takes device members (after_all new_federation history) old step =
+      record { may_come = come; comes = folders.2 } in (
+        folders.0,
+        folders.1,
+        takes,
+        goes_on device members is only_now (after_all new_federation history) l.x l.stands n
+            serving.0 old serving.1 step takes,
+        stands_then device members is only_now (after_all new_federation history) l.x l.stands n
+            serving.0 old serving.1 step takes,
+      )
 
-    pub known_stays : KnownStays device members
-    known_stays before later h n slot bag is may r =
-        known_then device members is only_now before later h n slot bag may r
+  pub registered_stays : RegisteredStays device members
+  registered_stays before later h n slot bag is may r =
+      let l = from_new device members is only_now (before ++ h ∷ later) may in
+      on_record device members is only_now (before ++ h ∷ later) l n slot (entry.Deposit bag)
+      (l.registers h (has_right before (here refl)) n slot bag r)
+
+  pub known_stays : KnownStays device members
+  known_stays before later h n slot bag is may r =
+      let l = from_new device members is only_now (before ++ h ∷ later) may in
+      on_record device members is only_now (before ++ h ∷ later) l n slot (entry.Known bag)
+      (l.knows h (has_right before (here refl)) n slot bag r)

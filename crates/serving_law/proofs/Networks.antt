@@ -1,7 +1,6 @@
 -- A network that a federation of sites that serve represents: the same records and volatile
 -- states, and a message for each datagram that was handed out.
-use Rattle.std.proofs.Common.{ℕ, ◌≡◌, ◌≢◌, ◌⊎◌, inl, inr, false}
-use Rattle.std.proofs.Common.{List, Some}
+use Rattle.std.proofs.Common.{ℕ, ◌≡◌, ◌≢◌, ◌⊎◌, inl, inr, false, List, Some}
 use Rattle.fed_types.specs.declared.bag_id.BagId.{BagId}
 use Rattle.fed_types.specs.Lists.{Has}
 use Rattle.fed_types.specs.Quorums.{QuorumSystem, quorums_of}
@@ -21,7 +20,7 @@ use Rattle.dgram.specs.Messages.{IsMessage}
 use Rattle.proposer.specs.VolatileStates.{VolatileState}
 use Rattle.site.specs.declared.answer.Reply.TheVariants as replies
 use Rattle.site.specs.Effects.{Send}
-use Rattle.site_tables.specs.Contents.{Contents}
+use Rattle.site.specs.Contents.{Contents}
 use Rattle.lines.specs.declared.notice.Notice.{Notice}
 use Rattle.lines.specs.declared.notice.Notice.TheVariants.{Registered, Learned, Replied}
 use Rattle.world_law.specs.Laws.{IsChosen, Report, notice_report}
@@ -83,12 +82,10 @@ module _ {C : Type 0} (device : C → Device) (members : Membership) where
     pub opened : s.site.book.needs_opening ≡ false
     pub whose : s.site.book.owner ≡ owner_of device members n
     pub volatile : s.volatile ≡ volatile_in t.mode
-    pub recovers :
-        RecoversTo (owner_of device members n) t.records (device s.site.book.cell).image
+    pub recovers : RecoversTo (owner_of device members n) t.records (device s.site.book.cell).image
 
   pub is_serving : (n : ℕ) (s : Serving C) (t : SiteState) → IsServed n s t
-      → s
-      ≡ serving n t.records (volatile_in t.mode) s.site.book.cell s.site.tables s.idle s.tried
+      → s ≡ serving n t.records (volatile_in t.mode) s.site.book.cell s.site.tables s.idle s.tried
   is_serving n s t h = λ i. record {
     site = record {
       book = record {
@@ -131,8 +128,7 @@ module _ {C : Type 0} (device : C → Device) (members : Membership) where
     pub known : (bag : BagId) → known_told message.body ≡ Some bag
         → IsChosen quorums w message.slot bag
     pub registered : (n : ℕ) (bag : BagId)
-        → message.body ≡ DepositReply n (deposit.Registered bag)
-        → HasDeposit x n message.slot bag
+        → message.body ≡ DepositReply n (deposit.Registered bag) → HasDeposit x n message.slot bag
     pub refused : (n : ℕ) (bag : BagId) → message.body ≡ DepositReply n (deposit.OtherKnown bag)
         → HasKnown w n message.slot bag
     pub queried : (n : ℕ) (bag : BagId) → message.body ≡ QueryReply n (query.Known bag)
@@ -140,8 +136,7 @@ module _ {C : Type 0} (device : C → Device) (members : Membership) where
 
   abbrev pub IsPost : (w x : Network) → List ℕ → Type 0
   IsPost w x bytes =
-      IsSent x bytes
-      ⊎ ((message : Message) × IsReply bytes message × SaysRightly w x message)
+      IsSent x bytes ⊎ ((message : Message) × IsReply bytes message × SaysRightly w x message)
 
   -- ---- lines
 

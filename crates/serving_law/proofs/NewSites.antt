@@ -5,7 +5,7 @@ use Rattle.fed_types.specs.Sites.{Membership, members_of}
 use Rattle.fed_types.specs.Values.{IsMembership}
 use Rattle.cell_device.specs.Images.{at_rest}
 use Rattle.records.proofs.Texts.{nothing_says}
-use Rattle.site_tables.specs.Contents.{Contents}
+use Rattle.site.specs.Contents.{Contents}
 use Rattle.serving_law.specs.Disks.{Disk, Blank, device}
 use Rattle.serving_law.specs.Federations.{Down, Federation, Happening, Starts}
 use Rattle.serving_law.specs.Rules.{May}

@@ -1,6 +1,6 @@
 -- A turn in which a site that serves is asked for a slot's bag, and asks the other members.
-use Rattle.std.proofs.Common.{ℕ, ◌≡◌, inl, inr, refl, sym, ap, subst, Bool, true, false, cond}
-use Rattle.std.proofs.Common.{List, [], ◌∷◌, None, Some}
+use Rattle.std.proofs.Common.{ℕ, ◌≡◌, inl, inr, refl, sym, ap, Bool, true, false, cond, List, []}
+use Rattle.std.proofs.Common.{◌∷◌, None, Some}
 use Rattle.std.specs.Prelude.{Result, Ok, Err}
 use Rattle.std.specs.List.{filter}
 use Rattle.fed_types.specs.declared.bag_id.BagId.{BagId}
@@ -36,8 +36,7 @@ use Rattle.serving_law.proofs.Moves.{moved_site, others_stay, moved_formed}
 use Rattle.serving_law.proofs.Recoveries.{as_it_was, recovered_now}
 use Rattle.serving_law.proofs.Replies.{query_answer_is, replied_is_known}
 use Rattle.serving_law.proofs.Scene.{Scene}
-use Rattle.serving_law.proofs.Networks.{quorums, IsServed, IsPost, IsNotice, IsSent, May}
-use Rattle.serving_law.proofs.Networks.{HasKnown, Moves}
+use Rattle.serving_law.proofs.Networks.{quorums, IsPost, IsNotice, IsSent, May, Moves}
 use Rattle.serving_law.proofs.Calls as calling
 use Rattle.serving_law.proofs.Turns as turning
 
@@ -57,19 +56,16 @@ has_filter test {x = x} (y ∷ ys) h = go (λ k. has_filter test ys k) (test y) 
 named : (n : ℕ) (reply : Reply BagId) (bag : BagId)
     → known_told (QueryReply n (query_answer (Ok reply))) ≡ Some bag → reply ≡ replies.Known bag
 named n (replies.Known b) bag e = ap replies.Known (some_same e)
-named n (replies.Pending b) bag e = absurd (cc e)
-named n replies.Nothing bag e = absurd (cc e)
+named n _ bag e = absurd (cc e)
 
 reported : (n : ℕ) (slot : SlotName) (reply : Reply BagId) (r : Report)
     → notice_report (Replied n slot reply) ≡ Some r
     → (reply ≡ replies.Known r.bag) × (slot ≡ r.slot)
 reported n slot (replies.Known b) r e =
-    let same : record { slot = slot; bag = b } ≡ r = some_same e in
-    (ap (λ (r : Report). replies.Known r.bag) same, ap (λ (r : Report). r.slot) same)
-reported n slot (replies.Pending b) r e = absurd (cc e)
-reported n slot replies.Nothing r e = absurd (cc e)
+    let same : record { slot = slot; bag = b } ≡ r = cc in (rw (← same) refl, rw (← same) refl)
+reported n slot _ r e = absurd (cc e)
 
-module _ {C : Type 0} (device : C → Device) (members : Membership) (s : Scene device members) where
+module _ {C : Type 0} {device : C → Device} {members : Membership} (s : Scene device members) where
   open s use {w, inv, formed, n, member, cell, tables, recovers, is_membership, only_now}
 
   abbrev q : QuorumSystem
@@ -80,7 +76,7 @@ module _ {C : Type 0} (device : C → Device) (members : Membership) (s : Scene 
 
   module _ (idle tried : ℕ) (slot : SlotName) (is_slot : IsSlot slot) where
     abbrev old : Serving C
-    old = turning.old device members s idle tried
+    old = turning.old s idle tried
 
     -- the network in which these members are asked
     abbrev asking : List ℕ → Network
@@ -91,11 +87,8 @@ module _ {C : Type 0} (device : C → Device) (members : Membership) (s : Scene 
     step D all =
         kept_moved q w n None (Up volatile) (to_each slot (Ask n) all) None D slot (Ask n)
         (only_sends q w n D slot (Ask n) (to_each slot (Ask n) all) (carries_each slot (Ask n) all)
-        refl (λ x g. tt))
-        inv
-        (same_recalls q w n volatile (inv.volatiles n) None slot (Ask n)
-        (λ k c bag e i. absurd (not_new (Ask n) tt i)))
-        reports_nothing
+        refl (λ x g. tt)) inv (same_recalls q w n volatile (inv.volatiles n) None slot (Ask n)
+        (λ k c bag e i. absurd (not_new (Ask n) tt i))) reports_nothing
 
     abbrev AreMembers : List ℕ → Type 0
     AreMembers all = (k : ℕ) → Has k all → Has k (members_of members)
@@ -106,18 +99,13 @@ module _ {C : Type 0} (device : C → Device) (members : Membership) (s : Scene 
       kept = (step D all).kept;
       formed =
           moved_formed w n None (Up volatile) (to_each slot (Ask n) all) None formed tt
-          (formed.heard n)
-          (sends_are slot is_slot None tt (Ask n)
-          (turning.is_site device members s)
-          all
-          (λ k h. turning.sites device members s k (are k h))
-          volatile (formed.heard n)).sends;
+          (formed.heard n) (sends_are slot is_slot None tt (Ask n) (turning.is_site s) all
+          (λ k h. turning.sites s k (are k h)) volatile (formed.heard n)).sends;
       grows = (step D all).grows;
       others = others_stay w n None (Up volatile) (to_each slot (Ask n) all) None;
       is =
-          subst (IsServed device members n old)
-          (sym (moved_site w n None (Up volatile) (to_each slot (Ask n) all) None))
-          (calling.served device members s idle tried old None (Up volatile)
+          rw (moved_site w n None (Up volatile) (to_each slot (Ask n) all) None)
+          (calling.served s idle tried old None (Up volatile)
           (as_it_was device (owner_of device members n) old.site.book refl refl recovers) refl);
       deposits = λ k s bag h. elim ((step D all).deposits k s bag h) [
         | inl before ↦ inl before
@@ -141,17 +129,14 @@ module _ {C : Type 0} (device : C → Device) (members : Membership) (s : Scene 
         (λ (k : ℕ). record { to = k; message = record { slot = slot; body = Ask n } }) h
 
     abbrev question : List ℕ
-    question =
-        datagram_of members.federation (record { slot = slot; body = Ask n })
+    question = datagram_of members.federation (record { slot = slot; body = Ask n })
 
     asks_posts : (addresses all : List ℕ) (done : Done) → Asks addresses old slot all done
         → (port : ℕ) (bytes : List ℕ) → Has (port, bytes) done.posts
         → (k : ℕ) × Has k all × (bytes ≡ question)
-    asks_posts addresses [] done t port bytes h =
-        absurd (has_none (subst (λ (d : Done). Has (port, bytes) d.posts) t h))
+    asks_posts addresses [] done t port bytes h = absurd (has_none (rw t at h))
     asks_posts addresses (k ∷ all) done (rest, asks, inl e) port bytes h =
-        elim (has_cases (posts_to addresses k question) rest.posts
-        (subst (λ (d : Done). Has (port, bytes) d.posts) e h)) [
+        elim (has_cases (posts_to addresses k question) rest.posts (rw e at h)) [
           | inl first ↦
               let to = has_map (λ (p : ℕ). (p, question)) _ first in
               (k, here refl, ap (λ (p : ℕ × List ℕ). p.1) (sym to.2))
@@ -160,19 +145,16 @@ module _ {C : Type 0} (device : C → Device) (members : Membership) (s : Scene 
               (found.0, there found.1, found.2)
         ]
     asks_posts addresses (k ∷ all) done (rest, asks, inr e) port bytes h =
-        let found = asks_posts addresses all rest asks port bytes
-        (subst (λ (d : Done). Has (port, bytes) d.posts) e h) in
+        let found = asks_posts addresses all rest asks port bytes (rw e at h) in
         (found.0, there found.1, found.2)
 
     asks_notices : (addresses all : List ℕ) (done : Done) → Asks addresses old slot all done
         → (notice : Notice) → Has notice done.notices → Refused n faults.Memory ≡ notice
-    asks_notices addresses [] done t notice h =
-        absurd (has_none (subst (λ (d : Done). Has notice d.notices) t h))
+    asks_notices addresses [] done t notice h = absurd (has_none (rw t at h))
     asks_notices addresses (k ∷ all) done (rest, asks, inl e) notice h =
-        asks_notices addresses all rest asks notice (subst (λ (d : Done). Has notice d.notices) e h)
+        asks_notices addresses all rest asks notice (rw e at h)
     asks_notices addresses (k ∷ all) done (rest, asks, inr e) notice h =
-        elim (has_cases (Refused n faults.Memory ∷ []) rest.notices
-        (subst (λ (d : Done). Has notice d.notices) e h)) [
+        elim (has_cases (Refused n faults.Memory ∷ []) rest.notices (rw e at h)) [
           | inl first ↦ has_one first
           | inr later ↦ asks_notices addresses all rest asks notice later
         ]
@@ -184,8 +166,7 @@ module _ {C : Type 0} (device : C → Device) (members : Membership) (s : Scene 
 
     chosen : (bag : BagId) → reply ≡ replies.Known bag → IsChosen q w slot bag
     chosen bag e =
-        turning.known_chosen device members s slot bag
-        (replied_is_known slot (w.sites n).records bag e)
+        turning.known_chosen s slot bag (replied_is_known slot (w.sites n).records bag e)
 
     reply_post : (x : Network) (bytes : List ℕ)
         → datagram_of members.federation
@@ -196,10 +177,7 @@ module _ {C : Type 0} (device : C → Device) (members : Membership) (s : Scene 
       record {
         is = (
           is_slot,
-          (
-            turning.is_site device members s,
-            query_answer_is slot (w.sites n).records (formed.records n),
-          ),
+          (turning.is_site s, query_answer_is slot (w.sites n).records (formed.records n)),
         );
         bytes_are = sym e;
         replies = tt;
@@ -210,8 +188,7 @@ module _ {C : Type 0} (device : C → Device) (members : Membership) (s : Scene 
         refused = λ k bag f. absurd (cc f);
         queried = λ k bag f.
             let place : n ≡ k = cc in
-            subst (λ (m : ℕ). HasKnown w m slot bag) place
-            (replied_is_known slot (w.sites n).records bag
+            rw (← place) (replied_is_known slot (w.sites n).records bag
             (named n reply bag (ap known_told f)));
       },
     )
@@ -219,55 +196,44 @@ module _ {C : Type 0} (device : C → Device) (members : Membership) (s : Scene 
     reply_notice : (x : Network) → IsNotice device members w x (Replied n slot reply)
     reply_notice x = record {
       known = λ r e.
-          let f = reported n slot reply r e in
-          subst (λ (s : SlotName). IsChosen q w s r.bag) f.1 (chosen r.bag f.0);
+          let f = reported n slot reply r e in rw (← f.1) (chosen r.bag f.0);
       registered = λ k s bag e. absurd (cc e);
       learned = λ k s bag e. absurd (cc e);
       replied = λ k s bag e.
           let place : n ≡ k = cc in
           let slots : slot ≡ s = cc in
           let known : reply ≡ replies.Known bag = cc in
-          subst (λ (m : ℕ). HasKnown w m s bag) place
-          (subst (λ (t : SlotName). HasKnown w n t bag) slots
-          (replied_is_known slot (w.sites n).records bag known));
+          rw (← place, ← slots) (replied_is_known slot (w.sites n).records bag known);
     }
 
     -- ---- the turn
 
     pub query_ends : (addresses : List ℕ) (port : ℕ) (D : May) (done : Done) (new : Serving C)
-        → queries addresses old port slot done new
-        → turning.Ends device members s done new D
+        → queries addresses old port slot done new → turning.Ends s done new D
     query_ends addresses port D done new (asks, asks_are, done_is, same) =
-        subst (λ (v : Serving C). turning.Ends device members s done v D) (sym same) (record {
+        rw same (record {
           goes = λ opened. record {
             x = asking all;
             moves = moves D all (asked_are (Ok reply));
             posts = λ to bytes h.
-                elim (has_cases (_ ∷ []) asks.posts
-                (subst (λ (d : Done). Has (to, bytes) d.posts) done_is h)) [
+                elim (has_cases (_ ∷ []) asks.posts (rw done_is at h)) [
                   | inl first ↦
-                      reply_post (asking all) bytes
-                      (ap (λ (p : ℕ × List ℕ). p.1) (has_one first))
+                      reply_post (asking all) bytes (ap (λ (p : ℕ × List ℕ). p.1) (has_one first))
                   | inr later ↦
                       let found = asks_posts addresses all asks asks_are to bytes later in
                       inl (sent found.0 found.1 bytes found.2)
                 ];
             notices = λ notice h.
-                elim (has_cases (Replied n slot reply ∷ []) asks.notices
-                (subst (λ (d : Done). Has notice d.notices) done_is h)) [
-                  | inl first ↦
-                      subst (IsNotice device members w (asking all)) (has_one first)
-                      (reply_notice (asking all))
+                elim (has_cases (Replied n slot reply ∷ []) asks.notices (rw done_is at h)) [
+                  | inl first ↦ rw (← has_one first) (reply_notice (asking all))
                   | inr later ↦
-                      subst (IsNotice device members w (asking all))
-                      (asks_notices addresses all asks asks_are notice later)
-                      (turning.refused_is device members s (asking all) faults.Memory)
+                      rw (← asks_notices addresses all asks asks_are notice later)
+                      (turning.refused_is s (asking all) faults.Memory)
                 ];
           };
           fails = λ needs. absurd (cc needs);
           dies = λ records m.
-              calling.stops_as_it_was device members s idle tried
-              D records
+              calling.stops_as_it_was s idle tried D records
               (recovered_now device (owner_of device members n) old.site.book refl refl recovers
               only_now records m);
           last = λ needs. absurd (cc needs);

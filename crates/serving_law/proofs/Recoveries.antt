@@ -1,6 +1,6 @@
 -- What a call leaves of a site's records, in its book and in its cell.
-use Rattle.std.proofs.Common.{◌≡◌, ◌⊎◌, inl, inr, refl, sym, subst, ◌∙◌, true, false, ℕ}
-use Rattle.std.proofs.Common.{List, [], ◌∷◌, ◌++◌, append-nil, Option, None, Some}
+use Rattle.std.proofs.Common.{◌≡◌, ◌⊎◌, inl, inr, refl, sym, ◌∙◌, true, false, ℕ, List, [], ◌∷◌}
+use Rattle.std.proofs.Common.{◌++◌, append-nil, Option, None, Some}
 use Rattle.std.specs.Prelude.{Result, Ok, Err, IsSome}
 use Rattle.std.specs.Option.{option_to_list}
 use Rattle.cell_device.specs.Devices.{Device}
@@ -10,20 +10,18 @@ use Rattle.records.specs.declared.record.Record.{Record}
 use Rattle.records.specs.Journals.{DecodesTo}
 use Rattle.records.proofs.OneReading.{same_records_said}
 use Rattle.book.specs.declared.fault.CommitFault.TheVariants as commits
-use Rattle.book.specs.Committed.{SaysWithOrWithout}
+use Rattle.book.specs.Committed.{SaysWithOrWithout, Commits}
 use Rattle.book.specs.OpenBooks.{OpenBook, RecoversTo}
 use Rattle.site.specs.declared.answer.Answer.{Answer}
 use Rattle.site.specs.declared.fault.SiteFault.{SiteFault}
 use Rattle.site.specs.declared.fault.SiteFault.TheVariants as faults
-use Rattle.book.specs.Committed.{Commits}
 use Rattle.site.specs.Answered.{Keeps}
 use Rattle.serving_law.specs.Rules.{MayRecoverTo}
 
 -- a cell recovers to the records from before, or to those with the call's
 abbrev pub Recovered : (before : List Record) → Option Record → List Record → Type 0
 Recovered before o records =
-    (records ≡ before)
-    ⊎ ((r : Record) × (o ≡ Some r) × (records ≡ before ++ r ∷ []))
+    (records ≡ before) ⊎ ((r : Record) × (o ≡ Some r) × (records ≡ before ++ r ∷ []))
 
 module _ {C : Type 0} (device : C → Device) (owner : Owner) where
   -- an open book has these records, with one more if there is one, and so has its cell
@@ -45,7 +43,7 @@ module _ {C : Type 0} (device : C → Device) (owner : Owner) where
     }
 
     as_before : (new : OpenBook C) → new ≡ old → IsKept old.records None new
-    as_before new e = subst (IsKept old.records None) (sym e) as_it_was
+    as_before new e = rw e as_it_was
 
     unchanged : (r : Record) (new : OpenBook C) → Commits device old r (Err commits.Memory) new
         → IsKept old.records None new
@@ -55,10 +53,7 @@ module _ {C : Type 0} (device : C → Device) (owner : Owner) where
           records = u.records ∙ sym (append-nil old.records);
           opened = u.opened ∙ opened;
           whose = c.whose ∙ whose;
-          recovers =
-              subst (λ (o : Option Image). RecoversTo owner new.records o) (sym u.bytes)
-              (subst (λ (rs : List Record). RecoversTo owner rs (device old.cell).image)
-              (sym u.records) recovers);
+          recovers = rw (u.bytes, u.records) recovers;
         }
 
     -- after an answer
@@ -70,9 +65,7 @@ module _ {C : Type 0} (device : C → Device) (owner : Owner) where
       records = c.committed.0;
       opened = c.committed.1;
       whose = c.whose ∙ whose;
-      recovers =
-          subst (λ (o : Owner). RecoversTo o new.records (device new.cell).image)
-          (c.whose ∙ whose) c.recovers;
+      recovers = rw (c.whose, whose) at c.recovers;
     }
 
     -- after a refusal, but where the device failed
@@ -83,14 +76,7 @@ module _ {C : Type 0} (device : C → Device) (owner : Owner) where
     kept_err (Some r) fault new (inl p) = inl (as_before new p.1)
     kept_err (Some r) faults.Device new (inr c) = inr (inl refl)
     kept_err (Some r) faults.NeedsOpen new (inr c) = inr (inr refl)
-    kept_err (Some r) faults.Memory new (inr c) = inl (unchanged r new c)
-    kept_err (Some r) (faults.InvalidBag fault) new (inr c) = inl (unchanged r new c)
-    kept_err (Some r) (faults.OtherDeposit bag) new (inr c) = inl (unchanged r new c)
-    kept_err (Some r) (faults.OtherKnown bag) new (inr c) = inl (unchanged r new c)
-    kept_err (Some r) faults.NoDeposit new (inr c) = inl (unchanged r new c)
-    kept_err (Some r) faults.RoundsSpent new (inr c) = inl (unchanged r new c)
-    kept_err (Some r) faults.AlreadyKnown new (inr c) = inl (unchanged r new c)
-    kept_err (Some r) faults.NothingToRecover new (inr c) = inl (unchanged r new c)
+    kept_err (Some r) _ new (inr c) = inl (unchanged r new c)
 
     -- where the device failed, the book needs opening
     pub device_needs : (o : Option Record) (new : OpenBook C) → IsSome o
@@ -105,8 +91,7 @@ module _ {C : Type 0} (device : C → Device) (owner : Owner) where
         → (device cell).left_since (device cell).moment bytes
         → MayLeave (device cell).image bytes) where
       pub recovered_now : (records : List Record)
-          → MayRecoverTo owner (device old.cell) (device old.cell) records
-          → records ≡ old.records
+          → MayRecoverTo owner (device old.cell) (device old.cell) records → records ≡ old.records
       recovered_now records m =
           go (device old.cell).image m.told recovers (only_now old.cell m.bytes m.left)
         where
@@ -118,12 +103,8 @@ module _ {C : Type 0} (device : C → Device) (owner : Owner) where
 
       -- a crash since the call began, where the book is as it was
       as_was : (new : OpenBook C) (records : List Record) → new ≡ old
-          → MayRecoverTo owner (device old.cell) (device new.cell) records
-          → records ≡ old.records
-      as_was new records e m =
-          recovered_now records
-          (subst (λ (v : OpenBook C). MayRecoverTo owner (device old.cell) (device v.cell) records)
-          e m)
+          → MayRecoverTo owner (device old.cell) (device new.cell) records → records ≡ old.records
+      as_was new records e m = recovered_now records (rw e at m)
 
       -- and where a record was to be committed
       with_or_without : (r : Record) (bytes : List ℕ) (records : List Record)
@@ -132,11 +113,10 @@ module _ {C : Type 0} (device : C → Device) (owner : Owner) where
           → Recovered old.records (Some r) records
       with_or_without r bytes records says None some h = absurd (cc some)
       with_or_without r bytes records says (Some i) some h =
-          go (subst (λ (o : Owner). SaysWithOrWithout o old.records r bytes) whose h)
+          go (rw whose at h)
         where
           go : SaysWithOrWithout owner old.records r bytes → Recovered old.records (Some r) records
-          go (inl without) =
-              inl (same_records_said owner records old.records bytes says without)
+          go (inl without) = inl (same_records_said owner records old.records bytes says without)
           go (inr with) =
               inr (r, refl, same_records_said owner records (old.records ++ r ∷ []) bytes says with)
 

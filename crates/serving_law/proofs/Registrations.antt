@@ -1,6 +1,6 @@
 -- A bag that is registered is on record.
-use Rattle.std.proofs.Common.{◌≡◌, Bool, true, false, cond, refl, ap, subst, ◌∙◌}
-use Rattle.std.proofs.Common.{List, [], ◌++◌, Option, None, Some}
+use Rattle.std.proofs.Common.{◌≡◌, Bool, true, false, cond, refl, ap, ◌∙◌, List, [], ◌++◌, Option}
+use Rattle.std.proofs.Common.{None, Some}
 use Rattle.std.specs.Prelude.{Result, Ok, Err}
 use Rattle.std.specs.Option.{option_to_list}
 use Rattle.fed_types.specs.declared.bag_id.BagId.{BagId}
@@ -21,7 +21,6 @@ use Rattle.site.specs.declared.answer.Line.TheVariants as site_lines
 use Rattle.site.specs.declared.fault.SiteFault.{SiteFault}
 use Rattle.site.specs.declared.fault.SiteFault.TheVariants as faults
 use Rattle.site.specs.Calls.{on_deposit, registering, other_than, deposit_fault}
-use Rattle.site.specs.Effects.{refuses}
 use Rattle.site.specs.Faults.{check_fault}
 
 module _ (slot : SlotName) (records : List Record) (volatile : VolatileState) where
@@ -41,28 +40,22 @@ module _ (slot : SlotName) (records : List Record) (volatile : VolatileState) wh
       (entry.Deposit bag)
   by_own None e bag known f = has_right records (here refl)
   by_own (Some own) e bag known f =
-      has_left []
-      (subst (λ (b : BagId). HasEntry slot records (entry.Deposit b)) (same_own bag own known f)
-      (deposit_among slot records own e))
+      has_left [] (rw (← same_own bag own known f) (deposit_among slot records own e))
 
   by_fault : (own : Option BagId) → deposit_of slot records ≡ own → (found bag : BagId)
       (known : Option BagId) (fault : Option SiteFault)
       → deposit_fault (other_than found own) known ≡ fault
       → (registering slot own found fault volatile).says ≡ Ok (Some (site_lines.Registered bag))
       → HasEntry slot (records ++ option_to_list
-      (registering slot own found fault volatile).commits)
-      (entry.Deposit bag)
+      (registering slot own found fault volatile).commits) (entry.Deposit bag)
   by_fault own e found bag known None f says =
       let same : found ≡ bag = cc in
-      subst (λ (b : BagId). HasEntry slot
-      (records ++ option_to_list (registering slot own found None volatile).commits)
-      (entry.Deposit b)) same (by_own own e found known f)
+      rw (← same) (by_own own e found known f)
   by_fault own e found bag known (Some fault) f says = absurd (cc says)
 
   pub registered_is_kept : (checked : Result BagId BagFault) (bag : BagId)
       → (on_deposit records volatile slot checked).says ≡ Ok (Some (site_lines.Registered bag))
-      → HasEntry slot
-      (records ++ option_to_list (on_deposit records volatile slot checked).commits)
+      → HasEntry slot (records ++ option_to_list (on_deposit records volatile slot checked).commits)
       (entry.Deposit bag)
   unfolding on_deposit
   registered_is_kept (Err fault) bag says = absurd (cc says)
@@ -94,19 +87,14 @@ module _ (slot : SlotName) (records : List Record) (volatile : VolatileState) wh
 
   -- the check of a tree finds no known bag
   no_known : (fault : BagFault) (bag : BagId) → check_fault fault ≡ faults.OtherKnown bag → ⊥
-  no_known checks.Memory bag e = absurd (cc e)
-  no_known fault bag e = absurd (cc e)
+  no_known checks.Memory bag e = cc
+  no_known _ bag e = cc
 
   pub other_known_is : (checked : Result BagId BagFault) (bag : BagId)
       → (on_deposit records volatile slot checked).says ≡ Err (faults.OtherKnown bag)
       → HasEntry slot records (entry.Known bag)
   unfolding on_deposit
-  other_known_is (Err fault) bag says =
-      absurd (no_known fault bag (same_fault (check_fault fault) (faults.OtherKnown bag) says))
-    where
-      same_fault : (f g : SiteFault)
-          → (refuses f volatile).says ≡ Err g → f ≡ g
-      same_fault f g e = cc
+  other_known_is (Err fault) bag says = absurd (no_known fault bag (cc says))
   other_known_is (Ok found) bag says =
       let e = refused_by (deposit_of slot records) found bag _ says in
       known_among slot records bag
@@ -114,26 +102,23 @@ module _ (slot : SlotName) (records : List Record) (volatile : VolatileState) wh
       found bag (other_than found (known_of slot records)) refl e)
 
   -- a bag that is refused for another deposit
+  none : (bag : BagId) (known : Option BagId)
+      → deposit_fault None known ≡ Some (faults.OtherDeposit bag) → ⊥
+  none bag None e = cc
+  none bag (Some known) e = cc
+
   deposit_by_fault : (own : Option BagId) → deposit_of slot records ≡ own → (known : Option BagId)
       (found bag : BagId)
       → deposit_fault (other_than found own) known ≡ Some (faults.OtherDeposit bag)
       → HasEntry slot records (entry.Deposit bag)
-  deposit_by_fault None e None found bag f = absurd (cc f)
-  deposit_by_fault None e (Some known) found bag f = absurd (cc f)
+  deposit_by_fault None e known found bag f = absurd (none bag known f)
   deposit_by_fault (Some own) e known found bag f = go (same_bag own found) f
     where
-      none : (known : Option BagId) → deposit_fault None known ≡ Some (faults.OtherDeposit bag) → ⊥
-      none None g = cc
-      none (Some known) g = cc
-
       go : (t : Bool)
           → deposit_fault (cond t None (Some own)) known ≡ Some (faults.OtherDeposit bag)
           → HasEntry slot records (entry.Deposit bag)
-      go true g = absurd (none known g)
-      go false g =
-          let same : own ≡ bag = cc in
-          subst (λ (b : BagId). HasEntry slot records (entry.Deposit b)) same
-          (deposit_among slot records own e)
+      go true g = absurd (none bag known g)
+      go false g = let same : own ≡ bag = cc in rw (← same) (deposit_among slot records own e)
 
   deposit_refused_by : (own : Option BagId) (found bag : BagId) (fault : Option SiteFault)
       → (registering slot own found fault volatile).says ≡ Err (faults.OtherDeposit bag)
@@ -143,18 +128,14 @@ module _ (slot : SlotName) (records : List Record) (volatile : VolatileState) wh
   deposit_refused_by own found bag (Some fault) says = cc
 
   no_deposit : (fault : BagFault) (bag : BagId) → check_fault fault ≡ faults.OtherDeposit bag → ⊥
-  no_deposit checks.Memory bag e = absurd (cc e)
-  no_deposit fault bag e = absurd (cc e)
+  no_deposit checks.Memory bag e = cc
+  no_deposit _ bag e = cc
 
   pub other_deposit_is : (checked : Result BagId BagFault) (bag : BagId)
       → (on_deposit records volatile slot checked).says ≡ Err (faults.OtherDeposit bag)
       → HasEntry slot records (entry.Deposit bag)
   unfolding on_deposit
-  other_deposit_is (Err fault) bag says =
-      absurd (no_deposit fault bag (same_fault (check_fault fault) (faults.OtherDeposit bag) says))
-    where
-      same_fault : (f g : SiteFault) → (refuses f volatile).says ≡ Err g → f ≡ g
-      same_fault f g e = cc
+  other_deposit_is (Err fault) bag says = absurd (no_deposit fault bag (cc says))
   other_deposit_is (Ok found) bag says =
       let e = deposit_refused_by (deposit_of slot records) found bag _ says in
       deposit_by_fault (deposit_of slot records) refl

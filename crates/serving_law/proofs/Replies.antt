@@ -1,6 +1,5 @@
 -- Replies to clients are well-formed, and a bag that one calls known was chosen.
-use Rattle.std.proofs.Common.{ℕ, ◌≡◌, refl, subst, arith}
-use Rattle.std.proofs.Common.{List, length, Option, None, Some}
+use Rattle.std.proofs.Common.{ℕ, ◌≡◌, refl, arith, List, length, Option, None, Some}
 use Rattle.std.specs.Prelude.{Ok}
 use Rattle.std.specs.Option.{IfSome}
 use Rattle.sha2.specs.Sha512.{sha512, digest_bytes}
@@ -37,10 +36,7 @@ unfolding check_of
 checked_is facts bag = go (first_fault facts)
   where
     go : (o : Option BagFault) → answer facts o ≡ Ok bag → IsBag bag
-    go None e = subst IsBag (same e) (sixty_four _)
-      where
-        same : answer facts None ≡ Ok bag → identity_of facts ≡ bag
-        same e = cc
+    go None e = let same : identity_of facts ≡ bag = cc in rw (← same) (sixty_four _)
     go (Some fault) e = absurd (cc e)
 
 -- ---- answers to deposits
@@ -48,12 +44,7 @@ checked_is facts bag = go (first_fault facts)
 pub tree_answer_is : (fault : TreeFault) → IfSome (tree_answer fault) IsDepositAnswer
 tree_answer_is trees.Memory = tt
 tree_answer_is trees.BadPath = tt
-tree_answer_is trees.Listing = (omega arith, omega arith)
-tree_answer_is trees.NotAFile = (omega arith, omega arith)
-tree_answer_is trees.TooDeep = (omega arith, omega arith)
-tree_answer_is trees.TooMany = (omega arith, omega arith)
-tree_answer_is trees.TextTooLong = (omega arith, omega arith)
-tree_answer_is trees.Device = (omega arith, omega arith)
+tree_answer_is _ = (omega arith, omega arith)
 
 pub bag_answer_is : (fault : BagFault) → IfSome (bag_answer fault) IsDepositAnswer
 bag_answer_is bags.Memory = tt
@@ -84,8 +75,6 @@ replied_is_known slot records bag =
     go : (known : Option BagId) → known_of slot records ≡ known → (own : Option BagId)
         → reply_by known own ≡ replies.Known bag → HasEntry slot records (entry.Known bag)
     go (Some known) e own f =
-        let same : known ≡ bag = cc in
-        subst (λ (b : BagId). HasEntry slot records (entry.Known b)) same
-        (known_among slot records known e)
+        let same : known ≡ bag = cc in rw (← same) (known_among slot records known e)
     go None e (Some own) f = absurd (cc f)
     go None e None f = absurd (cc f)

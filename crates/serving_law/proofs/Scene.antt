@@ -6,7 +6,7 @@ use Rattle.fed_types.specs.Values.{IsMembership}
 use Rattle.cell_device.specs.Devices.{Device}
 use Rattle.cell_device.specs.Images.{MayLeave}
 use Rattle.book.specs.OpenBooks.{RecoversTo}
-use Rattle.site_tables.specs.Contents.{Contents}
+use Rattle.site.specs.Contents.{Contents}
 use Rattle.world_law.specs.Networks.{Network}
 use Rattle.world_law.specs.WellFormed.{IsWellFormed}
 use Rattle.world_law.proofs.Kept.{Kept}

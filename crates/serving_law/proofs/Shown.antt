@@ -1,18 +1,12 @@
 -- What the definitions take in: replies, deposits, and what is dropped.
-use Rattle.std.proofs.Common.{ℕ, ◌≡◌, inl, inr, refl, sym, ap, subst, ◌∙◌, List, [], None}
-use Rattle.std.proofs.Common.{Some, take, arith, false}
-use Rattle.std.proofs.lemmas.Bool.{false≢true}
-use Rattle.std.specs.Prelude.{Result, Ok}
+use Rattle.std.proofs.Common.{ℕ, ◌≡◌, inl, inr, refl, sym, ap, List, [], None, Some, take, arith}
+use Rattle.std.proofs.Common.{false}
 use Rattle.fed_types.specs.declared.bag_id.BagId.{BagId}
 use Rattle.fed_types.specs.Lists.{Has, here, is_in}
 use Rattle.fed_types.specs.Sites.{IsSiteNumber, members_of, sites_to}
 use Rattle.fed_types.specs.Slots.{SlotName, same_slot}
 use Rattle.fed_types.specs.Laws.Sites.{sites_to_has}
 use Rattle.fed_types.specs.Laws.Lists.{is_in_decides}
-use Rattle.bag_tree.specs.declared.fault.TreeFault.{TreeFault}
-use Rattle.bag_tree.specs.Facts.{TreeFacts}
-use Rattle.bag_check.specs.Check.{identity_of}
-use Rattle.bag_check.specs.Valid.{IsValid}
 use Rattle.fields.specs.Encoding.{slot_bytes}
 use Rattle.records.specs.SlotStates.{known_of, used_of}
 use Rattle.dgram.specs.declared.answers.DepositAnswer.TheVariants as deposit
@@ -20,7 +14,7 @@ use Rattle.dgram.specs.declared.answers.QueryAnswer.TheVariants as query
 use Rattle.dgram.specs.declared.body.Body.{Body}
 use Rattle.dgram.specs.declared.body.Body.TheVariants.{DepositReply, QueryReply, Known}
 use Rattle.dgram.specs.declared.message.Message.{Message}
-use Rattle.dgram.specs.Encoding.{datagram_of, body_from}
+use Rattle.dgram.specs.Encoding.{datagram_of}
 use Rattle.dgram.specs.Heard.{bodies_of, floor_of, voters_for}
 use Rattle.dgram.specs.Messages.{IsMessage}
 use Rattle.dgram.proofs.MessageOf.{message_of-again}
@@ -32,20 +26,20 @@ use Rattle.site.specs.Arrivals.{on_arrival}
 use Rattle.site.specs.Calls as calls
 use Rattle.site.specs.Effects.{Effect, only_says}
 use Rattle.site.specs.Sites.{effect}
-use Rattle.site_tables.specs.Contents.{Contents, Represents}
+use Rattle.site.specs.Contents.{Contents, Represents}
 use Rattle.world_law.proofs.Deeds.{some_same}
 use Rattle.proposer.specs.UnderWay.{nothing}
 use Rattle.udp_site.specs.Requests as requests
 use Rattle.udp_site.specs.Requests.{request_of}
-use Rattle.udp_site.specs.Traffic.{Post, From}
-use Rattle.udp_site.specs.Turns.{Serving, turn_of, comes_of}
+use Rattle.udp_site.specs.Traffic.{From}
+use Rattle.udp_site.specs.Turns.{Serving, turn_of}
 use Rattle.serving_law.specs.Disks.{Disk, device}
 use Rattle.serving_law.specs.Examples.{Request}
 use Rattle.serving_law.specs.ExamplesAgreed.{three, a}
 use Rattle.serving_law.specs.ExamplesShown.{Replies, RepliesAreReports, drops, DropsBoth}
 use Rattle.serving_law.specs.ExamplesShown.{DepositsAreValid, NoiseIsDropped}
-use Rattle.serving_law.specs.Federations.{Step, Turns, after, new_federation}
-use Rattle.serving_law.specs.Reports.{Showing, IsPrinted, IsTold, OnRecord}
+use Rattle.serving_law.specs.Federations.{Step, new_federation}
+use Rattle.serving_law.specs.Reports.{Showing, IsPrinted, IsTold}
 use Rattle.serving_law.specs.Rules.{AreBytes, IsOfMember, MayAll}
 use Rattle.serving_law.proofs.AgreedMessages.{is_slot, is_bag}
 use Rattle.serving_law.proofs.Agreement.{three_are}
@@ -66,10 +60,7 @@ told : (federation : ℕ) (step : Step Disk) (slot : SlotName) (body : Body)
 told federation step slot body is (port, rest, posts_are) = record {
   address = port;
   bytes = datagram_of federation (record { slot = slot; body = body });
-  handed =
-      subst (λ (posts : List Post).
-      Has (port, datagram_of federation (record { slot = slot; body = body })) (take 1 posts))
-      (sym posts_are) (here refl);
+  handed = rw posts_are (here refl);
   reads = message_of-again federation (record { slot = slot; body = body }) is;
 }
 
@@ -103,10 +94,7 @@ replies_are_reports federation step slot bag is_slot is_bag = record {
         later = [];
         split = notices;
         begun = omega arith;
-      } in (
-        inl (Learned 1 slot bag, (one_byte, refl, begun), refl),
-        inl (one_byte, refl, begun),
-      );
+      } in (inl (Learned 1 slot bag, (one_byte, refl, begun), refl), inl (one_byte, refl, begun));
 }
   where
     one_byte : Showing
@@ -117,40 +105,16 @@ replies_are_reports federation step slot bag is_slot is_bag = record {
 
 -- ---- deposits
 
-same_path : {port at : ℕ} {slot : SlotName} {path to : List ℕ}
-    → requests.Deposits port slot path ≡ requests.Deposits at slot to → path ≡ to
-same_path e = cc
-
--- a folder that was read
-abbrev as_read : TreeFacts → Result TreeFacts TreeFault
-as_read facts = Ok facts
-
-same_facts : {facts its : TreeFacts} → as_read facts ≡ as_read its → facts ≡ its
-same_facts e = cc
-
 pub deposits_are_valid : DepositsAreValid
-deposits_are_valid federation f n step handed written port path facts slot bag asked read d = (
-  subst IsValid (sym facts_are) d.valid,
-  d.identity ∙ ap identity_of (sym facts_are),
-  subst (λ (k : ℕ). OnRecord (after f (Turns n step handed written)) k slot bag)
-      (sym (ap (λ (it : ℕ × Step Disk). it.0) both)) d.on_record,
-)
-  where
-    both : ◌≡◌ {A = ℕ × Step Disk} (n, step) (d.member, d.step)
-    both = some_same d.takes
-
-    step_is : step ≡ d.step
-    step_is = ap (λ (it : ℕ × Step Disk). it.1) both
-
-    path_is : path ≡ d.path
-    path_is =
-        same_path (sym asked
-        ∙ ap (λ (s : Step Disk). request_of federation s.turn.took) step_is ∙ d.asked)
-
-    facts_are : facts ≡ d.facts
-    facts_are =
-        same_facts (sym read ∙ ap (λ (s : Step Disk). s.folders path) step_is
-        ∙ ap (λ (p : List ℕ). d.step.folders p) path_is ∙ d.read)
+deposits_are_valid federation f n step handed written port path facts slot bag asked read d =
+    let same : ◌≡◌ {A = ℕ × Step Disk} (d.member, d.step) (n, step) = some_same (sym d.takes) in
+    let member_is : d.member ≡ n = ap (λ (it : ℕ × Step Disk). it.0) same in
+    let step_is : d.step ≡ step = ap (λ (it : ℕ × Step Disk). it.1) same in
+    let its_asked = rw step_is at d.asked in
+    let path_is : d.path ≡ path = cc in
+    let its_read = rw (step_is, path_is) at d.read in
+    let facts_are : d.facts ≡ facts = cc in
+    (rw facts_are at d.valid, rw facts_are at d.identity, rw member_is at d.on_record)
 
 -- ---- what is dropped
 
@@ -175,14 +139,9 @@ module _ (bytes : List ℕ) (bag : BagId) (fits : AreBytes bytes)
   abbrev noise_step : Step Disk
   noise_step = record { addresses = []; folders = no_folders; turn = drops bytes; next = site }
 
-  is_noise : (message : Message) → requests.Noise ≡ requests.Says message → ⊥
-  is_noise message e = cc
-
   noise_comes : turn_of device [] (Some no_folders) site (From 0 bytes) (drops bytes).done site
   noise_comes =
-      subst (λ (q : requests.Request).
-      comes_of device [] (Some no_folders) site q (drops bytes).done site)
-      (sym noise) (refl, refl)
+      rw noise (refl, refl)
 
   -- ---- a message of no member
 
@@ -207,15 +166,12 @@ module _ (bytes : List ℕ) (bag : BagId) (fits : AreBytes bytes)
   stranger : (message : Message) → request_of 7 (From 0 (datagram_of 7 m)) ≡ requests.Says message
       → IsOfMember three message → ⊥
   stranger message e (k, named, has) =
-      let same : m ≡ message =
-      same_said (sym (ap (requests.request_in 0) (message_of-again 7 m is_message)) ∙ e) in
-      let four : 4 ≡ k =
-      some_same (ap (λ (it : Message). body_from it.body) same ∙ named) in
-      false≢true (sym no_member ∙ ap (λ (j : ℕ). is_in (members_of three) j) four
-      ∙ (is_in_decides (members_of three) k).1 has)
-    where
-      same_said : {u v : Message} → requests.Says u ≡ requests.Says v → u ≡ v
-      same_said e = cc
+      let says = rw (message_of-again 7 m is_message) at e in
+      let same : m ≡ message = cc says in
+      let its = rw (← same) at named in
+      let four : 4 ≡ k = cc its in
+      let among = (is_in_decides (members_of three) k).1 has in
+      cc (no_member, four, among)
 
   abbrev dropping : Effect
   dropping = only_says site_lines.Dropped (volatile_of [] None)
@@ -234,8 +190,7 @@ module _ (bytes : List ℕ) (bag : BagId) (fits : AreBytes bytes)
       stranger_step.turn.done site
   stranger_comes =
       hears three three_are 1 [] [] its_tables (volatile_of [] None) 0 0 site m is_message refl
-      answer
-      (called three three_are 1 [] tt its_tables its_tables (volatile_of [] None) 0 0
+      answer (called three three_are 1 [] tt its_tables its_tables (volatile_of [] None) 0 0
       (calls.Arrives (Some m)) dropping (Some site_lines.Dropped) effect_is refl tt tt (omega arith)
       nothing its_stand)
 
@@ -253,10 +208,7 @@ module _ (bytes : List ℕ) (bag : BagId) (fits : AreBytes bytes)
         (
           site,
           (one, refl),
-          record {
-            may_come = (fits, λ message e its. absurd (is_noise message (sym noise ∙ e)));
-            comes = noise_comes;
-          },
+          record { may_come = (fits, λ message e its. absurd (cc noise)); comes = noise_comes },
           refl,
         ),
         (

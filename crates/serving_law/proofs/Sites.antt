@@ -1,12 +1,12 @@
 -- A site of three that serves, between two turns of an agreement, and what it has of its slot then.
-use Rattle.std.proofs.Common.{ℕ, ◌≡◌, refl, sym, ap, ◌∙◌, Bool, true, false, cond, List, [], ◌∷◌}
-use Rattle.std.proofs.Common.{Option, None, Some, arith}
+use Rattle.std.proofs.Common.{ℕ, ◌≡◌, refl, sym, ap, Bool, true, false, cond, List, [], ◌∷◌, Option}
+use Rattle.std.proofs.Common.{None, Some, arith}
 use Rattle.fed_types.specs.declared.bag_id.BagId.{BagId}
 use Rattle.fed_types.specs.declared.vote.Vote.{Vote}
 use Rattle.fed_types.specs.Lists.{is_in}
 use Rattle.fed_types.specs.Slots.{SlotName, same_slot}
 use Rattle.records.specs.declared.entry.Entry.{Entry}
-use Rattle.records.specs.SlotStates.{known_of, used_of, deposit_of}
+use Rattle.records.specs.SlotStates.{known_of, used_of}
 use Rattle.dgram.specs.declared.body.Body.{Body}
 use Rattle.dgram.specs.Heard.{same_vote, bodies_of, floor_of, voters_for, promisers}
 use Rattle.learner.specs.LearnerStates as ledgers
@@ -17,7 +17,7 @@ use Rattle.proposer.specs.declared.row.Row.{Row as own_row}
 use Rattle.proposer.specs.Proposals.{Current, gathered, highest_prior}
 use Rattle.proposer.specs.VolatileStates.{VolatileState, at_slot}
 use Rattle.proposer.specs.UnderWay.{nothing}
-use Rattle.site_tables.specs.Contents.{Represents}
+use Rattle.site.specs.Contents.{Represents}
 use Rattle.serving_law.specs.ExamplesAgreed.{three, a, ballot, vote}
 use Rattle.serving_law.proofs.Tables.{records_of, heard_of, tables, stands}
 
@@ -36,7 +36,7 @@ issued = record { ballot = ballot; heard_before = 0 }
 
 elsewhere : (c : Option Current) (s : SlotName) → same_slot a s ≡ false → current_of c s ≡ None
 elsewhere None s f = refl
-elsewhere (Some c) s f = ap (λ (t : Bool). cond t (Some c) None) f
+elsewhere (Some c) s f = rw f refl
 
 -- ---- its own row
 
@@ -49,12 +49,7 @@ promised_row voters = record {
   used = 1;
   floor = 0;
   begun = None;
-  current = Some (record {
-    ballot = ballot;
-    promised_by = voters;
-    best = None;
-    waiting = None;
-  });
+  current = Some (record { ballot = ballot; promised_by = voters; best = None; waiting = None });
 }
 
 -- a test of two votes, the other way round
@@ -76,8 +71,7 @@ voted_by bag voters = rows.Heard ((vote bag, voters) ∷ [])
 pub counted : (bag : BagId) (voters : List ℕ) (v : Vote)
     → ledgers.counted_in (Some (voted_by bag voters)) v
     ≡ ledgers.voters_or_none (cond (same_vote (vote bag) v) (Some voters) None)
-counted bag voters v =
-    ap (λ (t : Bool). ledgers.voters_or_none (cond t (Some voters) None)) (turned v (vote bag))
+counted bag voters v = rw (turned v (vote bag)) refl
 
 -- ---- the tables represent it
 

@@ -1,5 +1,5 @@
 -- What sites send one another is no request of a client and no reply to one.
-use Rattle.std.proofs.Common.{ℕ, Bool, true, false, cond, subst, List, [], ◌∷◌, Option, None, Some}
+use Rattle.std.proofs.Common.{ℕ, Bool, true, false, cond, List, [], ◌∷◌, Option, None, Some}
 use Rattle.std.specs.Prelude.{Result, Ok, Err}
 use Rattle.fed_types.specs.declared.bag_id.BagId.{BagId}
 use Rattle.fed_types.specs.Ballots.{BallotNumber}
@@ -54,7 +54,7 @@ unfolding to_each
 each_speaks slot body is sites d h =
     let f = has_map
     (λ (k : ℕ). record { to = k; message = record { slot = slot; body = body } }) sites h in
-    subst (λ (d : Send). IsSiteBody d.message.body) f.2 is
+    rw (← f.2) is
 
 answer_speaks : (n : ℕ) (a : Response) → IsSiteBody (answer_body n a)
 answer_speaks n (answer.Promised ballot vote) = tt
@@ -94,19 +94,13 @@ module _ (q : QuorumSystem) (n : ℕ) (records : List Record) where
   body_speaks old now slot (Promise from ballot prior) =
       proposing_speaks slot ballot
       (ready q (deposit_of slot records) slot (old.current slot) old.heard ballot
-      (record { site = from; prior = prior }))
-      now
+      (record { site = from; prior = prior })) now
   body_speaks old now slot (Accepted from vote) =
       learning_speaks slot (learned_from q slot records old.heard from vote) now
   body_speaks old now slot (Known from bag) =
       learning_speaks slot (learned_of_known slot records bag) now
-  body_speaks old now slot (Refused from asked standing) = none_speak
   body_speaks old now slot (Ask from) = telling_speaks slot from (known_of slot records) now
-  body_speaks old now slot (Deposit path) = none_speak
-  body_speaks old now slot Query = none_speak
-  body_speaks old now slot Recover = none_speak
-  body_speaks old now slot (DepositReply from answer) = none_speak
-  body_speaks old now slot (QueryReply from answer) = none_speak
+  body_speaks old now slot _ = none_speak
 
   module _ (volatile : VolatileState) where
     arrival_speaks : (o : Option Message) → Speak (on_arrival q n records volatile o).sends
@@ -157,8 +151,7 @@ module _ (q : QuorumSystem) (n : ℕ) (records : List Record) where
     recover_speaks : (slot : SlotName) → Speak (on_recover q n records volatile slot).sends
     unfolding on_recover
     recover_speaks slot =
-        recovering_speaks slot (known_of slot records) _
-        (next_ballot n slot records volatile.heard)
+        recovering_speaks slot (known_of slot records) _ (next_ballot n slot records volatile.heard)
 
     ask_speaks : (slot : SlotName) (member : ℕ) → Speak (on_ask n volatile slot member).sends
     unfolding on_ask

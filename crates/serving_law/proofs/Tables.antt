@@ -1,9 +1,7 @@
 -- The tables of a site whose records and messages are all of one slot: a row of that slot, in those
 -- of the proposer and of the learner.
-use Rattle.std.proofs.Common.{ℕ, ◌≡◌, refl, sym, ap, subst, ◌∙◌, Bool, true, false, cond, List, []}
-use Rattle.std.proofs.Common.{◌∷◌, map, filter_map, Option, None, Some}
-use Rattle.std.specs.List.{cons_option}
-use Rattle.fed_types.specs.declared.bag_id.BagId.{BagId}
+use Rattle.std.proofs.Common.{ℕ, ◌≡◌, refl, sym, Bool, true, false, List, [], ◌∷◌, map, filter_map}
+use Rattle.std.proofs.Common.{None, Some}
 use Rattle.fed_types.specs.declared.vote.Vote.{Vote}
 use Rattle.fed_types.specs.Lists.{is_in}
 use Rattle.fed_types.specs.Sites.{Membership}
@@ -11,18 +9,18 @@ use Rattle.fed_types.specs.Slots.{SlotName, same_slot}
 use Rattle.fed_types.specs.Laws.Slots.{same_slot_equivalence, same_slot_decides}
 use Rattle.records.specs.declared.entry.Entry.{Entry}
 use Rattle.records.specs.declared.record.Record.{Record}
-use Rattle.records.specs.SlotStates.{entries, known_of, used_of, deposit_of, round_in}
+use Rattle.records.specs.SlotStates.{entries, known_of, used_of, round_in}
 use Rattle.dgram.specs.declared.body.Body.{Body}
 use Rattle.dgram.specs.declared.message.Message.{Message}
 use Rattle.dgram.specs.Heard.{bodies_of, floor_of, voters_for, body_in}
 use Rattle.learner.specs.LearnerStates as ledgers
 use Rattle.learner.specs.declared.row.Row.{Row as heard_row}
 use Rattle.proposer.specs.declared.row.Row.{Row as own_row}
-use Rattle.proposer.specs.Rows.{Knows, row_of, empty_row}
+use Rattle.proposer.specs.Rows.{Knows, row_of}
 use Rattle.proposer.specs.VolatileStates.{VolatileState}
 use Rattle.proposer.specs.UnderWay.{nothing}
-use Rattle.slot_table.specs.Rows.{row_at, row_or}
-use Rattle.site_tables.specs.Contents.{Contents, Represents}
+use Rattle.slot_table.specs.Rows.{row_at}
+use Rattle.site.specs.Contents.{Contents, Represents}
 
 -- what a site has for a slot: its own row, and what it has heard
 pub record Rows : Type 0 where
@@ -50,16 +48,12 @@ module _ (slot : SlotName) where
   no_entries : (s : SlotName) → same_slot slot s ≡ false → (es : List Entry)
       → entries s (records_of es) ≡ []
   no_entries s f [] = refl
-  no_entries s f (e ∷ es) =
-      ap (λ (t : Bool). cons_option (cond t (Some e) None) (entries s (records_of es))) f
-      ∙ no_entries s f es
+  no_entries s f (e ∷ es) = rw f (no_entries s f es)
 
   no_bodies : (s : SlotName) → same_slot slot s ≡ false → (bs : List Body)
       → filter_map (body_in s) (heard_of bs) ≡ []
   no_bodies s f [] = refl
-  no_bodies s f (b ∷ bs) =
-      ap (λ (t : Bool). cons_option (cond t (Some b) None) (filter_map (body_in s) (heard_of bs))) f
-      ∙ no_bodies s f bs
+  no_bodies s f (b ∷ bs) = rw f (no_bodies s f bs)
 
   none_used : (s : SlotName) → same_slot slot s ≡ false → (es : List Entry)
       → used_of s (records_of es) ≡ 0
@@ -85,7 +79,7 @@ module _ (slot : SlotName) where
   no_voters vote = refl
 
   -- a table of one row
-  itself : same_slot slot slot ≡ true
+  pub itself : same_slot slot slot ≡ true
   itself = (same_slot_decides slot slot).1 refl
 
   -- after one record that issues no ballot
@@ -94,12 +88,11 @@ module _ (slot : SlotName) where
   used_by_none e none = rw (itself, none) refl
 
   the_row : {R : Type 0} (row : R) → row_at ((slot, row) ∷ []) slot ≡ Some row
-  the_row {R} row = ap (λ (t : Bool). cond t (Some row) None) itself
+  the_row row = rw itself refl
 
   no_row : {R : Type 0} (row : R) (s : SlotName) → same_slot slot s ≡ false
       → row_at ((slot, row) ∷ []) s ≡ None
-  no_row {R} row s f =
-      ap (λ (t : Bool). cond t (Some row) None) (same_slot_equivalence.symm s slot ∙ f)
+  no_row row s f = rw (same_slot_equivalence.symm s slot, f) refl
 
   module _ (members : Membership) (site : ℕ) (es : List Entry) (bs : List Body)
       (volatile : VolatileState) (heard : volatile.heard ≡ heard_of bs)
@@ -116,20 +109,11 @@ module _ (slot : SlotName) where
         (row_of ((slot, rows.own) ∷ []) s)
 
     proposer_at : (s : SlotName) (t : Bool) → same_slot slot s ≡ t → KnowsOf s
-    proposer_at s true e =
-        subst KnowsOf ((same_slot_decides slot s).0 e)
-        (subst (λ (r : own_row). Knows slot (records_of es) volatile.heard (volatile.current slot)
-        None None r)
-        (ap (λ (r : Option own_row). row_or empty_row r) (sym (the_row rows.own))) knows)
+    proposer_at s true e = rw (← (same_slot_decides slot s).0 e, the_row rows.own) knows
     proposer_at s false e =
-        subst (λ (r : own_row). Knows s (records_of es) volatile.heard (volatile.current s)
-        None None r)
-        (ap (λ (r : Option own_row). row_or empty_row r) (sym (no_row rows.own s e)))
-        (record {
+        rw (no_row rows.own s e) (record {
           used = sym (none_used s e es);
-          floor =
-              sym (ap (λ (ms : List Message). floor_of (bodies_of s ms)) heard
-              ∙ ap (λ (b : List Body). floor_of b) (none_heard s e bs) ∙ no_floor);
+          floor = rw (heard, none_heard s e bs, no_floor) refl;
           begun = refl;
           current = rw (elsewhere s e) tt;
           waiting = refl;
@@ -137,13 +121,8 @@ module _ (slot : SlotName) where
 
     known_at : (s : SlotName) (t : Bool) → same_slot slot s ≡ t
         → ledgers.known_in (row_at ((slot, rows.heard) ∷ []) s) ≡ known_of s (records_of es)
-    known_at s true e =
-        subst (λ (s : SlotName). ledgers.known_in (row_at ((slot, rows.heard) ∷ []) s)
-        ≡ known_of s (records_of es)) ((same_slot_decides slot s).0 e)
-        (ap (λ (r : Option heard_row). ledgers.known_in r) (the_row rows.heard) ∙ known)
-    known_at s false e =
-        ap (λ (r : Option heard_row). ledgers.known_in r) (no_row rows.heard s e)
-        ∙ sym (none_known s e es)
+    known_at s true e = rw (← (same_slot_decides slot s).0 e, the_row rows.heard) known
+    known_at s false e = rw (no_row rows.heard s e, none_known s e es) refl
 
     abbrev Counts : SlotName → Vote → ℕ → Type 0
     Counts s vote n =
@@ -153,16 +132,11 @@ module _ (slot : SlotName) where
     votes_at : (s : SlotName) (t : Bool) → same_slot slot s ≡ t
         → known_of s (records_of es) ≡ None → (vote : Vote) (n : ℕ) → Counts s vote n
     votes_at s true e none vote n =
-        subst (λ (s : SlotName). Counts s vote n) ((same_slot_decides slot s).0 e)
-        (ap (λ (r : Option heard_row). is_in (ledgers.counted_in r vote) n) (the_row rows.heard)
-        ∙ votes (ap (λ (s : SlotName). known_of s (records_of es))
-        ((same_slot_decides slot s).0 e) ∙ none) vote n)
+        let here : slot ≡ s = (same_slot_decides slot s).0 e in
+        let none_here = rw (← here) at none in
+        rw (← here, the_row rows.heard) (votes none_here vote n)
     votes_at s false e none vote n =
-        ap (λ (r : Option heard_row). is_in (ledgers.counted_in r vote) n)
-        (no_row rows.heard s e)
-        ∙ sym (ap (λ (xs : List ℕ). is_in xs n)
-        (ap (λ (ms : List Message). voters_for vote (bodies_of s ms)) heard
-        ∙ ap (λ (b : List Body). voters_for vote b) (none_heard s e bs) ∙ no_voters vote))
+        rw (no_row rows.heard s e, heard, none_heard s e bs, no_voters vote) refl
 
     pub stands : Represents (tables members site rows) (records_of es) volatile nothing
     stands = record {

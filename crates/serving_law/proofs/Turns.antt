@@ -1,6 +1,5 @@
 -- A turn of a site that serves is a move of its site in a network, whole or not.
-use Rattle.std.proofs.Common.{ℕ, ◌≡◌, inl, refl, sym, ap, subst, true, false}
-use Rattle.std.proofs.Common.{List}
+use Rattle.std.proofs.Common.{ℕ, ◌≡◌, inl, refl, ap, true, false, List}
 use Rattle.std.specs.Prelude.{Result, Ok, Err}
 use Rattle.fed_types.specs.declared.bag_id.BagId.{BagId}
 use Rattle.fed_types.specs.Lists.{Has}
@@ -38,16 +37,11 @@ use Rattle.serving_law.specs.Federations.{Serves, Down}
 use Rattle.serving_law.specs.Rules.{owner_of, MayRecoverTo}
 use Rattle.serving_law.proofs.Recoveries.{as_it_was, recovered_now, recovered_within}
 use Rattle.serving_law.proofs.Scene.{Scene}
-use Rattle.serving_law.proofs.Networks.{quorums, serving, IsNotice}
-use Rattle.serving_law.proofs.Networks.{IsPost, HasDeposit, May, Moves, Goes}
-use Rattle.serving_law.proofs.Networks.{allows}
+use Rattle.serving_law.proofs.Networks.{quorums, serving, IsNotice, IsPost, HasDeposit, May, Moves}
+use Rattle.serving_law.proofs.Networks.{Goes, allows}
 use Rattle.serving_law.proofs.Calls as calling
 
--- a call's result
-abbrev answered : Result Answer SiteFault → Result Answer SiteFault
-answered result = result
-
-module _ {C : Type 0} (device : C → Device) (members : Membership) (s : Scene device members) where
+module _ {C : Type 0} {device : C → Device} {members : Membership} (s : Scene device members) where
   open s use {w, inv, formed, n, member, cell, tables, recovers, is_membership, only_now}
 
   abbrev q : QuorumSystem
@@ -105,8 +99,7 @@ module _ {C : Type 0} (device : C → Device) (members : Membership) (s : Scene 
   -- a refusal says nothing else
   err_notices : (x : Network) (input : Input) (fault : SiteFault) (notice : Notice)
       → Has notice (notices_of n input (Err fault)) → IsNotice device members w x notice
-  err_notices x input fault notice h =
-      subst (IsNotice device members w x) (has_one h) (refused_is x fault)
+  err_notices x input fault notice h = rw (← has_one h) (refused_is x fault)
 
   -- ---- what is on record
 
@@ -136,18 +129,18 @@ module _ {C : Type 0} (device : C → Device) (members : Membership) (s : Scene 
         → ((notice : Notice) → Has notice done.notices → IsNotice device members w w notice)
         → Ends done new D
     quiet_ends new e done D posts notices =
-        subst (λ (v : Serving C). Ends done v D) (sym e) (record {
+        rw e (record {
           goes = λ opened. record {
             x = w;
             moves =
-                calling.stays device members s idle tried old
+                calling.stays s idle tried old
                 (as_it_was device owner old.site.book refl refl recovers) refl D;
             posts = posts;
             notices = notices;
           };
           fails = λ needs. absurd (cc needs);
           dies = λ records m.
-              calling.stops_as_it_was device members s idle tried D
+              calling.stops_as_it_was s idle tried D
               records
               (recovered_now device owner old.site.book refl refl recovers only_now records m);
           last = λ needs. absurd (cc needs);
@@ -167,59 +160,48 @@ module _ {C : Type 0} (device : C → Device) (members : Membership) (s : Scene 
             → MayRecoverTo owner (device cell) (device new.site.book.cell) records
             → (x : Network) × Moves device members w x n (Down records) D
         call_dies result new c records m =
-            let moves = calling.stopped_moves device members s idle tried input deed is records
+            let moves = calling.stopped_moves s idle tried input deed is records
             (recovered_within device owner old.site.book refl refl recovers only_now e.commits
             result new.site.book (c.answered refl).keeps records m) in
             (moves.0, allows device members may moves.1)
 
         -- where it is answered
         pub ok_ends : (answer : Answer) (new : Serving C)
-            → IsCalled device old input (Ok answer) new
-            → (done : Done)
-            → ((x : Network) → x ≡ calling.called device members s idle tried input
-            → (port : ℕ) (bytes : List ℕ) → Has (port, bytes) done.posts
-            → IsPost device members w x bytes)
+            → IsCalled device old input (Ok answer) new → (done : Done)
+            → ((port : ℕ) (bytes : List ℕ) → Has (port, bytes) done.posts
+            → IsPost device members w (calling.called s idle tried input) bytes)
             → ((notice : Notice) → Has notice done.notices
-            → Has notice (notices_of n input (Ok answer)))
-            → Ends done new D
+            → Has notice (notices_of n input (Ok answer))) → Ends done new D
         ok_ends answer new c done posts among = record {
           goes = λ opened. record {
             x = _;
-            moves = allows device members may
-                (calling.ok_moves device members s idle tried input
-                deed is answer new c);
-            posts = λ port bytes h. posts _ refl port bytes h;
+            moves =
+                allows device members may
+                (calling.ok_moves s idle tried input deed is answer new c);
+            posts = posts;
             notices = λ notice h.
-                calling.ok_notices device members s idle tried
-                input deed is answer (c.answered refl).gives.0 notice (among notice h);
+                calling.ok_notices s idle tried input deed is answer (c.answered refl).gives.0
+                notice (among notice h);
           };
           fails = λ needs.
-              absurd (cc (calling.failed_by_device device members s idle tried input (Ok answer)
-              new c needs));
+              absurd (cc (calling.failed_by_device s idle tried input (Ok answer) new c needs));
           dies = call_dies (Ok answer) new c;
           last = λ needs.
-              absurd (cc (calling.failed_by_device device members s idle tried input (Ok answer)
-              new c needs));
-          stands = λ before opened.
-              subst (λ (h : VolatileState). Represents new.site h) (sym c.volatile)
-              (c.answered refl).gives.2;
+              absurd (cc (calling.failed_by_device s idle tried input (Ok answer) new c needs));
+          stands = λ before opened. rw c.volatile (c.answered refl).gives.2;
         }
 
         -- where it is refused
         pub err_ends : (fault : SiteFault) (new : Serving C)
-            → IsCalled device old input (Err fault) new
-            → (done : Done)
+            → IsCalled device old input (Err fault) new → (done : Done)
             → ((x : Network) (port : ℕ) (bytes : List ℕ) → Has (port, bytes) done.posts
-            → IsPost device members w x bytes)
-            → ((notice : Notice) → Has notice done.notices
+            → IsPost device members w x bytes) → ((notice : Notice) → Has notice done.notices
             → Has notice (notices_of n input (Err fault)))
-            → (fault ≡ faults.Device → or_one done.notices ≡ true)
-            → Ends done new D
+            → (fault ≡ faults.Device → or_one done.notices ≡ true) → Ends done new D
         err_ends fault new c done posts among said = record {
           goes = λ opened. record {
             x = w;
-            moves = calling.err_stays device members s idle tried
-                input fault new c opened D;
+            moves = calling.err_stays s idle tried input fault new c opened D;
             posts = posts w;
             notices = λ notice h. err_notices w input fault notice (among notice h);
           };
@@ -233,16 +215,11 @@ module _ {C : Type 0} (device : C → Device) (members : Membership) (s : Scene 
               };
           dies = call_dies (Err fault) new c;
           last = λ needs.
-              said (same_fault (calling.failed_by_device device members s idle tried input
-              (Err fault) new c needs));
+              said (cc (calling.failed_by_device s idle tried input (Err fault) new c needs));
           stands = λ before opened.
-              subst (λ (h : VolatileState). Represents new.site h) (sym c.volatile)
-              (calling.err_stands device members s idle tried input fault new
+              rw c.volatile (calling.err_stands s idle tried input fault new
               (c.answered refl).keeps (c.answered refl).gives opened);
         }
-          where
-            same_fault : {f g : SiteFault} → answered (Err f) ≡ answered (Err g) → f ≡ g
-            same_fault e = cc
 
         -- where what is handed out is the call's datagrams
         pub speaks_ends : (result : Result Answer SiteFault) (new : Serving C)
@@ -252,11 +229,8 @@ module _ {C : Type 0} (device : C → Device) (members : Membership) (s : Scene 
             → Ends (record { posts = posts_of addresses result; notices = notices }) new D
         speaks_ends (Ok answer) new c addresses notices among said =
             ok_ends answer new c _
-            (λ x same port bytes h. subst (λ (x : Network). IsPost device members w x bytes)
-            (sym same)
-            (inl (calling.ok_posts device members s idle tried
-            input deed is answer (c.answered refl).gives.1 addresses port bytes h)))
-            among
+            (λ port bytes h. inl (calling.ok_posts s idle tried input deed is answer
+            (c.answered refl).gives.1 addresses port bytes h)) among
         speaks_ends (Err fault) new c addresses notices among said =
             err_ends fault new c _ (λ x port bytes h. absurd (has_none h)) among
             (λ e. said (ap Err e))

@@ -1,5 +1,6 @@
--- A disk that fails: a site that is to record a deposit is answered that its device failed, says so,
--- and ends. Its record may be lost or kept all the same, and the next process goes on from either.
+-- A disk that fails: a site that is to record a deposit is answered that its device failed, says
+-- so, and ends. Its record may be lost or kept all the same, and the next process goes on from
+-- either.
 use Rattle.std.specs.Prelude.{◌≡◌, ◌≤◌, ℕ, List, [], ◌∷◌, None, Some}
 use Rattle.cell_device.specs.Devices.{Device}
 use Rattle.cell_device.specs.Images.{Image, Leaves, MayLeave}
@@ -43,9 +44,9 @@ pub record WornAreLikeCells : Type 0 where
       → (worn_device worn).left_since (worn_device worn).moment bytes
       → MayLeave (worn_device worn).image bytes
 
--- Site 1 is started, and may be called again; its device fails as it records the deposit, and it has
--- handed out that reply, which may still come; its cell recovers to these records; and it is started
--- again, with just these.
+-- Site 1 is started, and may be called again; its device fails as it records the deposit, and it
+-- has handed out that reply, which may still come; its cell recovers to these records; and it is
+-- started again, with just these.
 pub record HasFailed (members : Membership) (slot : SlotName) (bag : BagId) (address : ℕ)
     (records : List Record) : Type 0 where
   pub start : Happening WornDisk

@@ -1,7 +1,7 @@
 -- A history of three sites in which one is stopped twice, and started again. Site 1 tells a client
 -- that its deposit is registered. It is killed in the call in which it proposes it, so nothing of
--- that is on its disk. A new process opens the disk, and prints later that the bag is known. It ends,
--- and one more process opens what it has left.
+-- that is on its disk. A new process opens the disk, and prints later that the bag is known. It
+-- ends, and one more process opens what it has left.
 use Rattle.std.specs.Prelude.{List, [], ◌∷◌, ◌++◌}
 use Rattle.fed_types.specs.declared.bag_id.BagId.{BagId}
 use Rattle.fed_types.specs.Lists.{Has}

@@ -1,6 +1,6 @@
--- What the definitions take in. A reply to a client is a report, or a registration, as a printed line
--- is. A deposit is of a valid bag. And what is no message, or is one in the name of a site that is no
--- member, may come at any time, and is dropped.
+-- What the definitions take in. A reply to a client is a report, or a registration, as a printed
+-- line is. A deposit is of a valid bag. And what is no message, or is one in the name of a site
+-- that is no member, may come at any time, and is dropped.
 use Rattle.std.specs.Prelude.{◌≡◌, ℕ, List, [], ◌∷◌, Ok}
 use Rattle.fed_types.specs.declared.bag_id.BagId.{BagId}
 use Rattle.fed_types.specs.Slots.{SlotName}
@@ -82,8 +82,8 @@ drops bytes = record {
   done = record { posts = []; notices = Dropped 1 ∷ [] };
 }
 
--- Of three, site 1 begins to serve, and nobody has handed out anything. These bytes come; and then a
--- message in the name of site 4, which is no member.
+-- Of three, site 1 begins to serve, and nobody has handed out anything. These bytes come; and then
+-- a message in the name of site 4, which is no member.
 pub record DropsBoth (bytes : List ℕ) (bag : BagId) : Type 0 where
   pub start : Happening Disk
   pub noise : Step Disk

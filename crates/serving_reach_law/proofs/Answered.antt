@@ -1,6 +1,6 @@
 -- What is within reach comes about, where calls that may answer are answered.
-use Rattle.std.proofs.Common.{ℕ, zero, suc, ◌+◌, ◌*◌, ◌≡◌, ◌≤◌, inl, inr, refl, sym, ap, subst, ◌∙◌}
-use Rattle.std.proofs.Common.{List, [], ◌∷◌, ◌++◌, length, arith}
+use Rattle.std.proofs.Common.{ℕ, zero, suc, ◌+◌, ◌*◌, ◌≡◌, ◌≤◌, inl, inr, refl, ap, ◌∙◌, List, []}
+use Rattle.std.proofs.Common.{◌∷◌, ◌++◌, length, arith}
 use Rattle.fed_types.specs.Sites.{Membership}
 use Rattle.fed_types.specs.Slots.{SlotName}
 use Rattle.cell_device.specs.Devices.{Device}
@@ -27,7 +27,7 @@ module _ {C : Type 0} (device : C → Device) (members : Membership) (addresses 
   reached_then f h r may =
       let more =
       one_more device members r.all new_federation h r.may
-      (subst (λ (f : Federation C). May device members f h) (sym r.is) may) in
+      (rw r.is may) in
       record {
         all = r.all ++ h ∷ [];
         may = more.0;
@@ -40,10 +40,7 @@ module _ {C : Type 0} (device : C → Device) (members : Membership) (addresses 
 
   can_be_done : (f : Federation C) (act : Act) → IsReached f
       → MayDo members addresses running slot before f act → CanBeDone act f
-  can_be_done f act r =
-      subst (λ (f : Federation C).
-      MayDo members addresses running slot before f act → CanBeDone act f) r.is
-      (λ may. answered r.all before act r.may may)
+  can_be_done f act r = rw (← r.is) (λ may. answered r.all before act r.may may)
 
   record Comes (most : ℕ) (f : Federation C) : Type 0 where
     acts : List Act
@@ -55,8 +52,7 @@ module _ {C : Type 0} (device : C → Device) (members : Membership) (addresses 
   none : (most : ℕ) (f : Federation C) → Agree members.federation history running slot f
       → Comes most f
   unfolding after_all AreDone
-  none most f agree =
-      record { acts = []; later = []; few = omega arith; done = tt; agree = agree }
+  none most f agree = record { acts = []; later = []; few = omega arith; done = tt; agree = agree }
 
   first : (most : ℕ) (f : Federation C) (act : Act) (h : Happening C)
       → MayDo members addresses running slot before f act → May device members f h

@@ -11,7 +11,7 @@ use Rattle.fed_types.specs.Sites.{Membership}
 use Rattle.fed_types.specs.Slots.{SlotName}
 use Rattle.fed_types.specs.Values.{IsSlot, IsBallot, IsVote, IsMembership}
 use Rattle.fed_types.specs.Laws.Quorums.{are_quorums}
-use Rattle.words.proofs.Utf8Lemmas.{IsByte-from_utf8}
+use Rattle.tokens.proofs.Utf8Lemmas.{IsByte-from_utf8}
 use Rattle.fields.specs.Encoding.{ballot_bytes, bag_bytes, vote_bytes, slot_bytes}
 use Rattle.cell_device.specs.Devices.{Device}
 use Rattle.dgram.specs.declared.body.Body.{Body}

@@ -18,8 +18,7 @@ use Rattle.proposer.specs.VolatileStates.{VolatileState}
 use Rattle.schedule.specs.declared.fate.Fate.TheVariants.{Whole}
 use Rattle.site.specs.Calls.{Input, effect_of}
 use Rattle.site.specs.Effects.{Effect, Send}
-use Rattle.world_law.specs.Networks.{Mode, Up, volatile_in, SiteState, Network, nothing, reaches}
-use Rattle.world_law.specs.Networks.{takes}
+use Rattle.world_law.specs.Networks.{Mode, Up, volatile_in, SiteState, Network, takes}
 use Rattle.world_law.specs.Networks as networks
 use Rattle.reach_law.proofs.Leads.{IsUp, went, takes_whole}
 use Rattle.udp_site.specs.Traffic.{Post}
@@ -39,8 +38,7 @@ module _ {C : Type 0} (members : Membership) (addresses : List ℕ) (before : �
   pub record Out (f : Federation C) (d : Send) : Type 0 where
     pub is : IsMessage d.message
     pub speaks : IsSiteBody d.message.body
-    pub handed : Has d.to (members_of members)
-        → IsFor members addresses (drop before f.handed) d.to
+    pub handed : Has d.to (members_of members) → IsFor members addresses (drop before f.handed) d.to
         (datagram_of members.federation d.message)
 
   pub record Mirrors (f : Federation C) (w : Network) : Type 0 where
@@ -81,8 +79,7 @@ module _ {C : Type 0} (members : Membership) (addresses : List ℕ) (before : �
   -- in the network a site moves, but nothing changes
   pub moves_not : (f : Federation C) (w : Network) → Mirrors f w → (n : ℕ)
       (records : List Record) (mode : Mode)
-      → w.sites n ≡ a_site records mode
-      → Mirrors f (went w n (records ++ []) mode [])
+      → w.sites n ≡ a_site records mode → Mirrors f (went w n (records ++ []) mode [])
   moves_not f w m n records mode is = record {
     sites = λ k. at k (k == n) refl;
     within = m.within;
@@ -107,11 +104,7 @@ module _ (members : Membership) (w : Network) (n : ℕ) (member : Has n (members
   pub takes_nothing : (input : Input) (records : List Record)
       → w.sites n ≡ a_site records networks.Down
       → (takes (quorums_of members) w n input Whole).network ≡ w
-  takes_nothing input records is =
-      ap (λ (t : Bool).
-      (cond t (reaches (quorums_of members) w n (w.sites n).mode input Whole) (nothing w)).network)
-      ((is_in_decides (members_of members) n).1 member)
-      ∙ ap (λ (s : SiteState). (reaches (quorums_of members) w n s.mode input Whole).network) is
+  takes_nothing input records is = rw ((is_in_decides (members_of members) n).1 member, is) refl
 
   -- at one that is up
   pub takes_up : (input : Input) (records : List Record) (volatile : VolatileState)
@@ -128,9 +121,7 @@ module _ (members : Membership) (w : Network) (n : ℕ) (member : Has n (members
       went w n (s.records ++ option_to_list e.commits) (Up e.volatile) e.sends) is
     where
       each : (k : ℕ) → Has k (n ∷ []) → Has k (members_of members)
-      each k h = subst (λ (j : ℕ). Has j (members_of members)) (has_one h) member
+      each k h = rw (← has_one h) member
 
       up : IsUp w n
-      up =
-          ap (λ (s : SiteState). s.mode) is
-          ∙ sym (ap (λ (s : SiteState). Up (volatile_in s.mode)) is)
+      up = rw is refl

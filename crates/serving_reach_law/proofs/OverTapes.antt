@@ -1,5 +1,5 @@
 -- Over tapes calls that may answer are answered; so what is within reach comes about.
-use Rattle.std.proofs.Common.{ℕ, ◌≡◌, refl, sym, subst, List, [], length, Some, drop}
+use Rattle.std.proofs.Common.{ℕ, ◌≡◌, refl, sym, subst, List, [], length, drop}
 use Rattle.fed_types.specs.Lists.{Has}
 use Rattle.fed_types.specs.Sites.{Membership, members_of}
 use Rattle.fed_types.specs.Slots.{SlotName}
@@ -8,13 +8,13 @@ use Rattle.cell_device.specs.Images.{at_rest}
 use Rattle.records.specs.declared.owner.Owner.{Owner}
 use Rattle.records.specs.declared.record.Record.{Record}
 use Rattle.records.specs.Records.{AreRecords}
-use Rattle.site_tables.specs.Contents.{Contents}
+use Rattle.site.specs.Contents.{Contents}
 use Rattle.world_law.specs.Networks.{SiteState, new_network, volatile_in}
 use Rattle.udp_site.specs.Requests as requests
 use Rattle.udp_site.specs.Requests.{Request, request_of}
 use Rattle.udp_site.specs.Served.{text_of}
 use Rattle.udp_site.specs.Traffic.{Post, Taken, Nothing, From}
-use Rattle.udp_site.specs.Turns.{Serving, turn_of}
+use Rattle.udp_site.specs.Turns.{Serving}
 use Rattle.serving_law.specs.Federations.{Member, Serves, Down, Federation, Step, Happening, Turns}
 use Rattle.serving_law.specs.Federations.{Starts, new_federation, after_all}
 use Rattle.serving_law.specs.Disks.{journal}
@@ -45,8 +45,7 @@ module _ (members : Membership) (addresses running : List ℕ) (are : AreRunning
 
   -- something does it
   abbrev CanBeDone : acts.Act → Type 0
-  CanBeDone act =
-      (h : Happening Tape) × May device members f h × Does addresses act h
+  CanBeDone act = (h : Happening Tape) × May device members f h × Does addresses act h
 
   -- ---- a member is started
 
@@ -155,10 +154,7 @@ module _ (members : Membership) (addresses running : List ℕ) (are : AreRunning
           (member, serves),
           record {
             may_come = may_come;
-            comes =
-                subst (λ (v : Serving Tape).
-                turn_of device addresses (Some no_folders) v took t.done t.next)
-                (sym (is_serving device members n old site served)) t.comes;
+            comes = rw (is_serving device members n old site served) t.comes;
           },
           t.opened,
         ),

@@ -1,6 +1,6 @@
 -- What a history leads to: a network that it represents, in which what was reported is chosen, and
 -- the bags of whose deposits are bytes.
-use Rattle.std.proofs.Common.{ℕ, ◌≡◌, inl, inr, refl, sym, subst, List, [], ◌∷◌, ◌++◌}
+use Rattle.std.proofs.Common.{ℕ, ◌≡◌, inl, inr, refl, List, [], ◌∷◌, ◌++◌}
 use Rattle.fed_types.specs.declared.bag_id.BagId.{BagId}
 use Rattle.fed_types.specs.Lists.{Has, here, there}
 use Rattle.fed_types.specs.Quorums.{QuorumSystem}
@@ -36,8 +36,7 @@ grows_then g h = record {
 
 -- the bag of each deposit on record is bytes
 abbrev pub DepositsAreBytes : Network → Type 0
-DepositsAreBytes w =
-    (n : ℕ) (slot : SlotName) (bag : BagId) → HasDeposit w n slot bag → Bytes bag.0
+DepositsAreBytes w = (n : ℕ) (slot : SlotName) (bag : BagId) → HasDeposit w n slot bag → Bytes bag.0
 
 module _ {C : Type 0} (device : C → Device) (members : Membership)
     (is_membership : IsMembership members) (only_now : OnlyNow device)
@@ -48,8 +47,7 @@ module _ {C : Type 0} (device : C → Device) (members : Membership)
     deposit_is_bytes : (f : Federation C) (h : Happening C) (slot : SlotName) (bag : BagId)
         → IsDeposit members.federation f h slot bag → Bytes bag.0
     deposit_is_bytes f h slot bag d =
-        subst (λ (v : BagId). Bytes v.0) (sym d.identity)
-        (of_bag d.facts (identity_of d.facts) (valid_checked d.facts d.valid))
+        rw d.identity (of_bag d.facts (identity_of d.facts) (valid_checked d.facts d.valid))
 
     bytes_then : (f : Federation C) (h : Happening C) (w : Network) → DepositsAreBytes w
         → (first : Went device members is_membership only_now f h w) → DepositsAreBytes first.x
@@ -85,7 +83,7 @@ module _ {C : Type 0} (device : C → Device) (members : Membership)
         reported g (here e) slot bag r =
             chosen_grows (grows_then first.grows rest.grows)
             (first.reports slot bag
-            (subst (λ (g : Happening C). Reports members.federation g slot bag) (sym e) r))
+            (rw e r))
         reported g (there has) slot bag r = rest.reports g has slot bag r
 
     pub walked : (history : List (Happening C)) (f : Federation C) (w : Network)

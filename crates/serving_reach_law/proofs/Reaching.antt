@@ -161,8 +161,7 @@ module _ {C : Type 0} (device : C → Device) (members : Membership) (only_now :
 
       ends_known : (g : Federation C)
           → Mirrors members addresses before g (run q (network_of f) l.events) → (n : ℕ)
-          → Has n running
-          → (bag : BagId) × (known_of slot (records_of (g.members n)) ≡ Some bag)
+          → Has n running → (bag : BagId) × (known_of slot (records_of (g.members n)) ≡ Some bag)
       ends_known g m n h =
           let bag =
           some_of (known_of slot (records_at (run q (network_of f) l.events) n)) (l.known n h) in (
@@ -203,10 +202,7 @@ module _ {C : Type 0} (device : C → Device) (members : Membership) (only_now :
       chosen = record {
         voters = c.chosen.voters;
         quorum = c.chosen.quorum;
-        voted = λ n h.
-            subst (λ (rs : List Record).
-            HasEntry slot rs (entry.Vote (record { ballot = c.ballot; bag = bag })))
-            (sym (same_records f base.x base.stands n)) (c.chosen.voted n h);
+        voted = λ n h. rw (same_records f base.x base.stands n) (c.chosen.voted n h);
       };
     }
 

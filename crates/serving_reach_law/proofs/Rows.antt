@@ -1,8 +1,7 @@
 -- Tables that represent any records, and what was heard: a row for each slot of one of them.
-use Rattle.std.proofs.Common.{ℕ, ◌≡◌, ◌≤◌, ◌⊎◌, max, inl, inr, refl, sym, ap, subst, ◌∙◌, Bool}
-use Rattle.std.proofs.Common.{true, false, cond, List, [], ◌∷◌, ◌++◌, length, map, filter_map, fold}
-use Rattle.std.proofs.Common.{Option, None, Some}
-use Rattle.std.specs.List.{cons_option}
+use Rattle.std.proofs.Common.{ℕ, ◌≡◌, ◌≤◌, ◌⊎◌, inl, inr, refl, sym, ap, ◌∙◌, Bool, true, false}
+use Rattle.std.proofs.Common.{cond, List, [], ◌∷◌, ◌++◌, length, map, filter_map, Option, None}
+use Rattle.std.proofs.Common.{Some}
 use Rattle.std.specs.Map.{lookup}
 use Rattle.std.proofs.lemmas.Bool.{false≢true, false_from_ne_true}
 use Rattle.std.specs.Prelude.{Decides}
@@ -13,27 +12,25 @@ use Rattle.fed_types.specs.Sites.{Membership}
 use Rattle.fed_types.specs.Slots.{SlotName, same_slot}
 use Rattle.fed_types.specs.Laws.Lists.{has_none, has_left, has_right}
 use Rattle.fed_types.specs.Laws.Slots.{same_slot_decides}
-use Rattle.records.specs.declared.entry.Entry.{Entry}
 use Rattle.records.specs.declared.record.Record.{Record}
-use Rattle.records.specs.SlotStates.{entries, known_of, used_of, round_in}
-use Rattle.records.specs.SlotStates as states
+use Rattle.records.specs.SlotStates.{entries, known_of, used_of}
+use Rattle.learner.specs.declared.row.Row.{Row as heard_row}
+use Rattle.proposer.specs.declared.row.Row.{Row as own_row}
 use Rattle.dgram.specs.declared.body.Body.{Body}
 use Rattle.dgram.specs.declared.body.Body.TheVariants.{Accepted}
 use Rattle.dgram.specs.declared.message.Message.{Message}
 use Rattle.dgram.specs.Heard.{body_in, bodies_of, floor_of, promisers, same_vote, voter_in}
 use Rattle.dgram.specs.Heard.{voters_for}
 use Rattle.learner.specs.LearnerStates as learners
-use Rattle.learner.specs.declared.row.Row.{Row as heard_row}
 use Rattle.learner.specs.declared.row.Row.TheVariants as rows
 use Rattle.learner.proofs.HeardVotes.{same_vote_decides}
-use Rattle.proposer.specs.declared.row.Row.{Row as own_row}
 use Rattle.proposer.specs.BallotStates.{BallotState}
 use Rattle.proposer.specs.Proposals.{Current, gathered, highest_prior}
 use Rattle.proposer.specs.Rows.{CountsFor, Knows, empty_row, waiting_in}
 use Rattle.proposer.specs.UnderWay.{nothing}
 use Rattle.proposer.specs.VolatileStates.{VolatileState}
 use Rattle.slot_table.specs.Rows.{row_at, row_or}
-use Rattle.site_tables.specs.Contents.{Contents, Represents}
+use Rattle.site.specs.Contents.{Contents, Represents}
 
 -- ---- a list of keys, each with what belongs to it
 
@@ -42,15 +39,14 @@ module _ {K V : Type 0} (test : K → K → Bool) (decides : (a b : K) → Decid
   abbrev pub with_each : List K → List (K × V)
   with_each keys = map (λ (k : K). (k, g k)) keys
 
-  pub found : (k : K) (keys : List K) → Has k keys
-      → lookup (test k) (with_each keys) ≡ Some (g k)
+  pub found : (k : K) (keys : List K) → Has k keys → lookup (test k) (with_each keys) ≡ Some (g k)
   found k [] h = absurd (has_none h)
   found k (i ∷ keys) h = go (test k i) refl (λ later. found k keys later) h
     where
       go : (t : Bool) → test k i ≡ t
           → (Has k keys → lookup (test k) (with_each keys) ≡ Some (g k)) → Has k (i ∷ keys)
           → cond t (Some (g i)) (lookup (test k) (with_each keys)) ≡ Some (g k)
-      go true e rest h = ap (λ (j : K). Some (g j)) (sym ((decides k i).0 e))
+      go true e rest h = rw ((decides k i).0 e) refl
       go false e rest (here same) = absurd (false≢true (sym e ∙ (decides k i).1 (sym same)))
       go false e rest (there later) = rest later
 
@@ -58,9 +54,8 @@ module _ {K V : Type 0} (test : K → K → Bool) (decides : (a b : K) → Decid
       → lookup (test k) (with_each keys) ≡ None
   not_found k [] none = refl
   not_found k (i ∷ keys) none =
-      ap (λ (t : Bool). cond t (Some (g i)) (lookup (test k) (with_each keys)))
-      (false_from_ne_true (test k i) (λ e. none (here (sym ((decides k i).0 e)))))
-      ∙ not_found k keys (λ h. none (there h))
+      rw (false_from_ne_true (test k i) (λ e. none (here (sym ((decides k i).0 e)))))
+      (not_found k keys (λ h. none (there h)))
 
 module _ {K : Type 0} (test : K → K → Bool) (decides : (a b : K) → Decides (test a b) (a ≡ b))
   where
@@ -94,28 +89,22 @@ no_entries : (s : SlotName) (records : List Record) → (Has s (slots_on records
     → entries s records ≡ []
 no_entries s [] none = refl
 no_entries s (r ∷ records) none =
-    ap (λ (t : Bool). cons_option (cond t (Some r.body) None) (entries s records))
-    (other_slot r.slot s (λ e. none (here e)))
-    ∙ no_entries s records (λ h. none (there h))
+    rw (other_slot r.slot s (λ e. none (here e))) (no_entries s records (λ h. none (there h)))
 
 no_bodies : (s : SlotName) (heard : List Message) → (Has s (slots_heard heard) → ⊥)
     → filter_map (body_in s) heard ≡ []
 no_bodies s [] none = refl
 no_bodies s (m ∷ heard) none =
-    ap (λ (t : Bool). cons_option (cond t (Some m.body) None) (filter_map (body_in s) heard))
-    (other_slot m.slot s (λ e. none (here e)))
-    ∙ no_bodies s heard (λ h. none (there h))
+    rw (other_slot m.slot s (λ e. none (here e))) (no_bodies s heard (λ h. none (there h)))
 
-none_used : (s : SlotName) (records : List Record) → entries s records ≡ []
-    → used_of s records ≡ 0
+none_used : (s : SlotName) (records : List Record) → entries s records ≡ [] → used_of s records ≡ 0
 unfolding used_of
-none_used s records none = ap (λ (es : List Entry). fold max 0 (filter_map round_in es)) none
+none_used s records none = rw none refl
 
 none_known : (s : SlotName) (records : List Record) → entries s records ≡ []
     → known_of s records ≡ None
 unfolding known_of
-none_known s records none =
-    ap (λ (es : List Entry). states.first (filter_map states.known_in es)) none
+none_known s records none = rw none refl
 
 no_floor : (s : SlotName) (heard : List Message) → filter_map (body_in s) heard ≡ []
     → floor_of (bodies_of s heard) ≡ 0
@@ -137,10 +126,8 @@ no_voters : (vote : Vote) (bodies : List Body) → (Has vote (filter_map vote_in
     → filter_map (voter_in vote) bodies ≡ []
 no_voters vote [] none = refl
 no_voters vote (Accepted from u ∷ bodies) none =
-    ap (λ (t : Bool). cons_option (cond t (Some from) None) (filter_map (voter_in vote) bodies))
-    (false_from_ne_true (same_vote u vote)
-    (λ e. none (here ((same_vote_decides u vote).0 e))))
-    ∙ no_voters vote bodies (λ h. none (there h))
+    rw (false_from_ne_true (same_vote u vote) (λ e. none (here ((same_vote_decides u vote).0 e))))
+    (no_voters vote bodies (λ h. none (there h)))
 no_voters vote (b ∷ bodies) none = no_voters vote bodies none
 
 abbrev votes_of : List Body → learners.Votes
@@ -154,14 +141,11 @@ unfolding voters_for
 counted vote bodies =
     elim (is_among same_vote same_vote_decides vote (filter_map vote_in bodies)) [
       | inl h ↦
-          ap (λ (o : Option (List ℕ)). learners.voters_or_none o)
-          (found same_vote same_vote_decides (λ (v : Vote). voters_for v bodies) vote
-          (filter_map vote_in bodies) h)
+          rw (found same_vote same_vote_decides (λ (v : Vote). voters_for v bodies) vote
+          (filter_map vote_in bodies) h) refl
       | inr none ↦
-          ap (λ (o : Option (List ℕ)). learners.voters_or_none o)
-          (not_found same_vote same_vote_decides (λ (v : Vote). voters_for v bodies) vote
-          (filter_map vote_in bodies) none)
-          ∙ sym (no_voters vote bodies none)
+          rw (not_found same_vote same_vote_decides (λ (v : Vote). voters_for v bodies) vote
+          (filter_map vote_in bodies) none) (sym (no_voters vote bodies none))
     ]
 
 -- ---- the tables
@@ -243,8 +227,7 @@ module _ (members : Membership) (site : ℕ) (records : List Record) (volatile :
 
   module _ (s : SlotName) (none : Has s keys → ⊥) where
     no_records : entries s records ≡ []
-    no_records =
-        no_entries s records (λ h. none (has_left (slots_heard volatile.heard) h))
+    no_records = no_entries s records (λ h. none (has_left (slots_heard volatile.heard) h))
 
     none_heard : filter_map (body_in s) volatile.heard ≡ []
     none_heard = no_bodies s volatile.heard (λ h. none (has_right (slots_on records) h))
@@ -258,37 +241,27 @@ module _ (members : Membership) (site : ℕ) (records : List Record) (volatile :
       waiting = refl;
     }
       where
-        counts : (o : Option Current) → volatile.current s ≡ o
-            → CountsFor s volatile.heard o None
+        counts : (o : Option Current) → volatile.current s ≡ o → CountsFor s volatile.heard o None
         counts None e = tt
         counts (Some c) e =
             absurd (none (has_left (slots_heard volatile.heard) (is.on_record s c e)))
 
-  proposer_at : (s : SlotName)
-      → KnowsOf s (row_or empty_row (row_at tables.proposer.rows s))
+  proposer_at : (s : SlotName) → KnowsOf s (row_or empty_row (row_at tables.proposer.rows s))
   proposer_at s =
       elim (is_among same_slot same_slot_decides s keys) [
-        | inl h ↦
-            subst (λ (o : Option own_row). KnowsOf s (row_or empty_row o))
-            (sym (found same_slot same_slot_decides own_at s keys h)) (knows_there s)
+        | inl h ↦ rw (found same_slot same_slot_decides own_at s keys h) (knows_there s)
         | inr none ↦
-            subst (λ (o : Option own_row). KnowsOf s (row_or empty_row o))
-            (sym (not_found same_slot same_slot_decides own_at s keys none))
-            (knows_elsewhere s none)
+            rw (not_found same_slot same_slot_decides own_at s keys none) (knows_elsewhere s none)
       ]
 
-  known_at : (s : SlotName)
-      → learners.known_in (row_at tables.learner.rows s) ≡ known_of s records
+  known_at : (s : SlotName) → learners.known_in (row_at tables.learner.rows s) ≡ known_of s records
   known_at s =
       elim (is_among same_slot same_slot_decides s keys) [
         | inl h ↦
-            ap (λ (o : Option heard_row). learners.known_in o)
-            (found same_slot same_slot_decides heard_at s keys h)
-            ∙ by_known (known_of s records)
+            rw (found same_slot same_slot_decides heard_at s keys h) (by_known (known_of s records))
         | inr none ↦
-            ap (λ (o : Option heard_row). learners.known_in o)
-            (not_found same_slot same_slot_decides heard_at s keys none)
-            ∙ sym (none_known s records (no_records s none))
+            rw (not_found same_slot same_slot_decides heard_at s keys none)
+            (sym (none_known s records (no_records s none)))
       ]
     where
       by_known : (o : Option BagId) → learners.known_in (Some (heard_by s o)) ≡ o
@@ -301,14 +274,11 @@ module _ (members : Membership) (site : ℕ) (records : List Record) (volatile :
   votes_at s unknown vote =
       elim (is_among same_slot same_slot_decides s keys) [
         | inl h ↦
-            ap (λ (o : Option heard_row). learners.counted_in o vote)
-            (found same_slot same_slot_decides heard_at s keys h)
-            ∙ ap (λ (o : Option BagId). learners.counted_in (Some (heard_by s o)) vote) unknown
-            ∙ counted vote (bodies_of s volatile.heard)
+            rw (found same_slot same_slot_decides heard_at s keys h, unknown)
+            (counted vote (bodies_of s volatile.heard))
         | inr none ↦
-            ap (λ (o : Option heard_row). learners.counted_in o vote)
-            (not_found same_slot same_slot_decides heard_at s keys none)
-            ∙ sym (none_votes s volatile.heard vote (none_heard s none))
+            rw (not_found same_slot same_slot_decides heard_at s keys none)
+            (sym (none_votes s volatile.heard vote (none_heard s none)))
       ]
 
   pub represents : Represents tables records volatile nothing

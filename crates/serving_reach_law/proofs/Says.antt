@@ -11,8 +11,7 @@ use Rattle.records.specs.declared.record.Record.{Record}
 use Rattle.records.specs.SlotStates.{deposit_of, known_of}
 use Rattle.dgram.specs.declared.body.Body.{Body}
 use Rattle.dgram.specs.declared.body.Body.TheVariants.{Prepare, Promise, Accept, Accepted, Refused}
-use Rattle.dgram.specs.declared.body.Body.TheVariants.{Ask, Known, Deposit, Query, Recover}
-use Rattle.dgram.specs.declared.body.Body.TheVariants.{DepositReply, QueryReply}
+use Rattle.dgram.specs.declared.body.Body.TheVariants.{Ask, Known}
 use Rattle.dgram.specs.declared.message.Message.{Message}
 use Rattle.dgram.specs.Encoding.{body_from}
 use Rattle.acceptor.specs.declared.decision.Decision.{Decision}
@@ -123,19 +122,14 @@ module _ (q : QuorumSystem) (n : ℕ) (records : List Record) where
   body_plain old now slot (Refused from asked standing) =
       record { line = None; says = refl; volatile = inl refl; few = omega arith }
   body_plain old now slot (Ask from) = telling_plain slot from (known_of slot records) old now
-  body_plain old now slot (Deposit path) = dropped_plain old now
-  body_plain old now slot Query = dropped_plain old now
-  body_plain old now slot Recover = dropped_plain old now
-  body_plain old now slot (DepositReply from answer) = dropped_plain old now
-  body_plain old now slot (QueryReply from answer) = dropped_plain old now
+  body_plain old now slot _ = dropped_plain old now
 
   pub arrival_plain : (volatile : VolatileState) (m : Message)
       → IsPlain q volatile (hears volatile m) (on_arrival q n records volatile (Some m))
   unfolding on_arrival
   arrival_plain volatile m = go (is_member q (body_from m.body))
     where
-      go : (t : Bool)
-          → IsPlain q volatile (hears volatile m)
+      go : (t : Bool) → IsPlain q volatile (hears volatile m)
           (cond t (on_body q n records volatile (hears volatile m) m.slot m.body)
           (only_says site_lines.Dropped volatile))
       go true = body_plain volatile (hears volatile m) m.slot m.body

@@ -29,8 +29,7 @@ rests bytes = (0, sym (keeps_same 0 bytes))
 no_later : (tape : Tape) (since : ℕ) (c : List ℕ) → left_on tape since c → since ≤ length tape
 no_later [] since c left = left.0
 no_later (latest ∷ earlier) since c (inl now) = now.0
-no_later (latest ∷ earlier) since c (inr before) =
-    omega (arith, no_later earlier since c before)
+no_later (latest ∷ earlier) since c (inr before) = omega (arith, no_later earlier since c before)
 
 -- what is there now was there at this moment, and nothing else
 is_now : (tape : Tape) (since : ℕ) → since ≤ length tape → left_on tape since (bytes_on tape)
@@ -49,18 +48,14 @@ are_like_cells = record {
       subst (λ (j : Image). Leaves j j.seen) (some_is (at_rest (bytes_on tape)) i e)
       (rests (bytes_on tape));
   counts_now = λ tape t bytes l left.
-      subst (λ (c : List ℕ). left_on tape t c) (sym (at_rest_leaves (bytes_on tape) bytes left))
-      (is_now tape t l);
-  only_now = λ tape bytes left.
-      subst (λ (c : List ℕ). Leaves (at_rest (bytes_on tape)) c) (sym (only_then tape bytes left))
-      (rests (bytes_on tape));
+      rw (at_rest_leaves (bytes_on tape) bytes left) (is_now tape t l);
+  only_now = λ tape bytes left. rw (only_then tape bytes left) (rests (bytes_on tape));
 }
   where
     some_is : (i j : Image) → Some i ≡ Some j → i ≡ j
     some_is i j e = cc
 
-pub only_now : (tape : Tape) (c : List ℕ)
-    → (device tape).left_since (device tape).moment c
+pub only_now : (tape : Tape) (c : List ℕ) → (device tape).left_since (device tape).moment c
     → Leaves (at_rest (bytes_on tape)) c
 only_now tape c left = are_like_cells.only_now tape c left
 
@@ -74,9 +69,7 @@ module _ (owner : Owner) (are_weights : AreWeights owner.members.weights) where
       → RecoversTo owner records (Some (at_rest (journal owner records)))
   recovers records are = (
     says owner are_weights records are,
-    λ c l.
-        subst (λ (b : List ℕ). DecodesTo owner b (Ok records))
-        (sym (at_rest_leaves (journal owner records) c l)) (says owner are_weights records are),
+    λ c l. rw (at_rest_leaves (journal owner records) c l) (says owner are_weights records are),
   )
 
   -- ---- it is opened
@@ -104,8 +97,7 @@ module _ (owner : Owner) (are_weights : AreWeights owner.members.weights) where
       each = λ c left. inr (
         records,
         says owner are_weights records are,
-        subst (λ (b : List ℕ). DecodesTo owner b (Ok records))
-            (sym (only_then (with_journal records) c left)) (says owner are_weights records are),
+        rw (only_then (with_journal records) c left) (says owner are_weights records are),
       );
       before = λ t c within left. inl left;
     };
@@ -132,15 +124,11 @@ module _ (owner : Owner) (are_weights : AreWeights owner.members.weights) where
     are_more = whole-push records r are is
 
     says_more : (c : List ℕ) → c ≡ journal owner more → SaysEither c
-    says_more c e =
-        inr (subst (λ (b : List ℕ). DecodesTo owner b (Ok more)) (sym e)
-        (says owner are_weights more are_more))
+    says_more c e = inr (rw e (says owner are_weights more are_more))
 
     since_now : (c : List ℕ) → left_on then (length tape) c → SaysEither c
     since_now c (inl now) = says_more c now.1
-    since_now c (inr before) =
-        inl (subst (λ (b : List ℕ). DecodesTo owner b (Ok records))
-        (sym (only_then tape c before)) told.0)
+    since_now c (inr before) = inl (rw (only_then tape c before) told.0)
 
     since_then : (t : ℕ) (c : List ℕ) → t ≤ length tape → left_on then t c
         → left_on tape t c ⊎ SaysEither c

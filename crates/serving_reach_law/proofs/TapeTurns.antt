@@ -36,10 +36,10 @@ use Rattle.site.specs.Calls.{Input, Recovers, Arrives, effect_of, recovers_if, o
 use Rattle.site.specs.Calls.{begins_ballot}
 use Rattle.site.specs.Effects.{Effect, Send, refuses}
 use Rattle.site.specs.Sites.{Represents, effect}
-use Rattle.site_tables.specs.Contents.{Contents}
+use Rattle.site.specs.Contents.{Contents}
 use Rattle.lines.specs.declared.notice.Notice.{Notice}
 use Rattle.lines.specs.declared.notice.Notice.TheVariants.{Refused}
-use Rattle.lines.specs.Notices.{notice_of}
+use Rattle.lines.specs.Notices.{notice_of, reply_notice}
 use Rattle.world_law.specs.WellFormed.{AreMessages}
 use Rattle.world_law.proofs.Deeds.{some_same}
 use Rattle.world_law.proofs.WellFormed.{members_are_sites}
@@ -50,7 +50,6 @@ use Rattle.udp_site.specs.Requests.{Request}
 use Rattle.udp_site.specs.Served.{or_one}
 use Rattle.udp_site.specs.Turns.{Serving, Done, IsCalled, Asks, comes_of, posts_of, posts_to}
 use Rattle.udp_site.specs.Turns.{notices_of, recovery_notices, query_replies, asked, answer_to}
-use Rattle.lines.specs.Notices.{reply_notice}
 use Rattle.serving_law.specs.Disks.{journal}
 use Rattle.serving_law.specs.Rules.{owner_of}
 use Rattle.serving_law.proofs.Answers as answers
@@ -86,8 +85,7 @@ same_fault a b e = ap refused_as (same e)
 each_message : (sends : List Send) → ((d : Send) → Has d sends → IsMessage d.message)
     → answers.AreMessages sends
 each_message [] all = tt
-each_message (d ∷ sends) all =
-    (all d (here refl), each_message sends (λ e h. all e (there h)))
+each_message (d ∷ sends) all = (all d (here refl), each_message sends (λ e h. all e (there h)))
 
 as_long : (federation : ℕ) (sends : List Send) (are : answers.AreMessages sends)
     → length (seals federation sends are) ≡ length sends
@@ -165,13 +163,10 @@ supported_begun records volatile slot b is = record {
         → cond t (Some (begun_now volatile b)) (volatile.current s) ≡ Some c
         → Has s (map (λ (r : Record). r.slot) (records ++ round_of slot b ∷ []))
     on_record s c true f e =
-        subst (λ (k : SlotName).
-        Has k (map (λ (r : Record). r.slot) (records ++ round_of slot b ∷ [])))
-        ((same_slot_decides slot s).0 f)
+        rw (← (same_slot_decides slot s).0 f)
         (map_has (λ (r : Record). r.slot) {x = round_of slot b}
         (has_right records {ys = round_of slot b ∷ []} (here refl)))
-    on_record s c false f e =
-        slots_stay records (Some (round_of slot b)) s (is.on_record s c e)
+    on_record s c false f e = slots_stay records (Some (round_of slot b)) s (is.on_record s c e)
 
     within : (s : SlotName) (c : Current) (t : Bool)
         → cond t (Some (begun_now volatile b)) (volatile.current s) ≡ Some c
@@ -237,8 +232,7 @@ module _ (members : Membership) (is_membership : IsMembership members) (addresse
     new = record {
       site = record {
         book = book_then e.commits;
-        tables =
-            table_rows.tables members n (records_then records e.commits) e.volatile then;
+        tables = table_rows.tables members n (records_then records e.commits) e.volatile then;
       };
       volatile = e.volatile;
       idle = idle;
@@ -265,8 +259,7 @@ module _ (members : Membership) (is_membership : IsMembership members) (addresse
     called : IsCalled device old input (Ok answer) new
     called = record {
       answered = λ opened.
-          subst (λ (f : Effect). IsAnswered device old.site new.site volatile f (Ok answer))
-          (sym same) (record {
+          rw same (record {
             keeps = keeps e.commits formed.commits answer;
             gives = (
               says,
@@ -360,8 +353,7 @@ module _ (members : Membership) (is_membership : IsMembership members) (addresse
           comes = (
             Ok (answer (Recovers slot) (begun b) same None refl formed few then),
             called (Recovers slot) (begun b) same None refl formed few then,
-            λ opened fault says.
-                absurd (not_said (sym says ∙ ap (λ (f : Effect). f.says) same)),
+            λ opened fault says. absurd (not_said (sym says ∙ ap (λ (f : Effect). f.says) same)),
             refl,
           );
           not_the_last = refl;
@@ -440,8 +432,7 @@ module _ (members : Membership) (is_membership : IsMembership members) (addresse
             refused_turn faults.AlreadyKnown same (refl, represented) refl
         by_known None false next same =
             refused_turn faults.NothingToRecover same (refl, represented) refl
-        by_known None true None same =
-            refused_turn faults.RoundsSpent same (refl, represented) refl
+        by_known None true None same = refused_turn faults.RoundsSpent same (refl, represented) refl
         by_known None true (Some b) same = begun_turn b same
 
     -- ---- a client asks for a slot's bag

@@ -324,15 +324,13 @@ module _ {C : Type 0} (device : C → Device) (members : Membership)
                 → (effect_at input).says ≡ said line
                 → Mirror (after f (whole n s)) (takes q w n input Whole).network
             called_turn is line says_so =
-                let a =
-                answer_is input line result s.next call says_so has_memory has_cell in
+                let a = answer_is input line result s.next call says_so has_memory has_cell in
                 moved_so is a.0 a.1
 
         -- the event is brought about by any turn that takes this in and goes well
         module _ (took : Taken) (x : Network)
             (each : (s : Step C) → TakesWell took s → Mirror (after f (whole n s)) x) where
-          same_old : (k : ℕ) (other : Serving C) → k ≡ n → f.members k ≡ Serves other
-              → other ≡ old
+          same_old : (k : ℕ) (other : Serving C) → k ≡ n → f.members k ≡ Serves other → other ≡ old
           same_old k other same is =
               serves_same
               (sym (subst (λ (i : ℕ). f.members i ≡ Serves other) same is) ∙ serves)
@@ -364,8 +362,7 @@ module _ {C : Type 0} (device : C → Device) (members : Membership)
 
           replayed_by : MayCome members f.handed took
               → Comes members addresses (drop before f.handed) n slot took → Replayed f x
-          replayed_by may comes =
-              inr (acts.Take n took, (runs, (old, serves), may, comes), done_by)
+          replayed_by may comes = inr (acts.Take n took, (runs, (old, serves), may, comes), done_by)
 
         abbrev records : List Record
         records = old.site.book.records
@@ -450,8 +447,7 @@ module _ {C : Type 0} (device : C → Device) (members : Membership)
             IsOf members addresses (drop before f.handed) n slot
             (datagram_of members.federation query_message) k) (sym asks_query) refl
 
-        asked_are : known_of slot records ≡ None
-            → asked old (answer_to old slot)
+        asked_are : known_of slot records ≡ None → asked old (answer_to old slot)
             ≡ filter (λ (k : ℕ). not (k == n)) (members_of members)
         unfolding reply_of
         asked_are unknown =
@@ -651,8 +647,7 @@ module _ {C : Type 0} (device : C → Device) (members : Membership)
         started_by (Ends k left) may does = absurd does
         started_by (Renews k) may does = absurd does
 
-        starts_now : Replayed f
-            (networks.if_member q w n (starts w n (w.sites n).mode)).network
+        starts_now : Replayed f (networks.if_member q w n (starts w n (w.sites n).mode)).network
         starts_now = inr (acts.Start n, (runs, (records, down)), started_by)
 
       -- ---- any member
@@ -701,8 +696,7 @@ module _ {C : Type 0} (device : C → Device) (members : Membership)
     -- ---- any event
 
     pub replayed : (e : Event) (f : Federation C) → At f → (w : Network) → Mirror f w
-        → reach.IsCalm running slot 0 w e → IsBrought slot w e
-        → Replayed f (happens q w e).network
+        → reach.IsCalm running slot 0 w e → IsBrought slot w e → Replayed f (happens q w e).network
     unfolding happens
     replayed (networks.Start n) f r w m runs brought = is_started f r w m n runs
     replayed (networks.Recover n s fate) f r w m (runs, same, is_whole) brought =

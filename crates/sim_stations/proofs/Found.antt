@@ -1,10 +1,7 @@
 -- The least number that nothing has named.
-use Rattle.std.proofs.Common.{◌≡◌, ℕ, zero, suc, ◌+◌, ◌<◌, ◌≤◌, Bool, true, false, cond, not}
-use Rattle.std.proofs.Common.{List, [], ◌∷◌, length, Option, Some, None, refl, sym, ap, ◌∙◌}
-use Rattle.std.proofs.Common.{subst}
-use Rattle.std.proofs.Common.{arith, inl, inr}
+use Rattle.std.proofs.Common.{◌≡◌, ℕ, zero, suc, ◌+◌, ◌<◌, ◌≤◌, Bool, true, false, not, List, []}
+use Rattle.std.proofs.Common.{◌∷◌, length, Some, None, refl, sym, arith, inl, inr}
 use Rattle.std.specs.List.{find}
-use Rattle.std.specs.Option.{option_or}
 use Rattle.std.proofs.lemmas.List.Folds.{find-append}
 use Rattle.std.proofs.lemmas.Bool.Decides.{eqb_tells}
 use Rattle.fed_types.specs.Lists.{is_in}
@@ -21,10 +18,8 @@ pub find_none : (test : ℕ → Bool) (count last : ℕ) → count ≤ last → 
 unfolding numbers_to
 find_none test zero last within all = refl
 find_none test (suc n) last within all =
-    find-append (λ k. not (test k)) (numbers_to n) (suc n ∷ [])
-    ∙ ap (λ (o : Option ℕ). option_or o (find (λ k. not (test k)) (suc n ∷ [])))
-    (find_none test n last (omega arith) all)
-    ∙ ap (λ (b : Bool). cond (not b) (Some (suc n)) None) (all (suc n) (omega arith) within)
+    rw (find-append (λ k. not (test k)) (numbers_to n) (suc n ∷ []))
+    (rw (find_none test n last (omega arith) all, all (suc n) (omega arith) within))
 
 -- the next one, which doesn't, is the first
 pub find_next : (test : ℕ → Bool) (count last : ℕ) → last < count → AllPass test last
@@ -33,18 +28,13 @@ pub find_next : (test : ℕ → Bool) (count last : ℕ) → last < count → Al
 unfolding numbers_to
 find_next test zero last within all not_it = absurd (omega arith)
 find_next test (suc n) last within all not_it =
-    find-append (λ k. not (test k)) (numbers_to n) (suc n ∷ [])
-    ∙ elim (eqb_tells last n) [
+    rw (find-append (λ k. not (test k)) (numbers_to n) (suc n ∷ []))
+    (elim (eqb_tells last n) [
       | inl same ↦
-          ap (λ (o : Option ℕ). option_or o (find (λ k. not (test k)) (suc n ∷ [])))
-          (find_none test n last (omega (arith, same.1)) all)
-          ∙ ap (λ (b : Bool). cond (not b) (Some (suc n)) None)
-          (ap test (omega (arith, same.1)) ∙ not_it)
-          ∙ ap Some (omega (arith, same.1))
-      | inr other ↦
-          ap (λ (o : Option ℕ). option_or o (find (λ k. not (test k)) (suc n ∷ [])))
-          (find_next test n last (omega (arith, other.1)) all not_it)
-    ]
+          let next : suc n ≡ last + 1 = omega (arith, same.1) in
+          rw (find_none test n last (omega (arith, same.1)) all, next, not_it)
+      | inr other ↦ rw (find_next test n last (omega (arith, other.1)) all not_it)
+    ])
 
 -- The next number, or none, where each number up to this one was named. The table is seen as what
 -- is sent.
@@ -53,22 +43,19 @@ module _ {T : Type 0} (table sending : Sending T) (marks : List Bool) (named : L
     (many : count ≡ length table.sent) (last_is : IsLast marks table.others count last)
     (stands : Represents sending named) where
   all_sent : count ≡ length sending.sent
-  all_sent = many ∙ ap (λ (d : Sending T). length d.sent) seen
+  all_sent = rw seen at many
 
   is : IsLast sending.marks sending.others count last
-  is =
-      subst (λ (d : Sending T). IsLast d.marks d.others count last) seen
-      (subst (λ (m : List Bool). IsLast m table.others count last) same last_is)
+  is = rw (same, seen) at last_is
 
   pub next_found : last < count → Some (last + 1) ≡ next_unnamed named (length sending.sent)
   next_found less =
-      sym (find_next (is_in named) count last less
-      (λ k one within. sym (stands k) ∙ is.0 k one within)
-      (sym (stands (last + 1)) ∙ is.1 less))
-      ∙ ap (next_unnamed named) all_sent
+      rw (← all_sent)
+      (sym (find_next (is_in named) count last less
+      (λ k one within. rw stands at (is.0 k one within)) (rw stands at (is.1 less))))
 
   pub next_none : count ≤ last → None ≡ next_unnamed named (length sending.sent)
   next_none all =
-      sym (find_none (is_in named) count last all
-      (λ k one within. sym (stands k) ∙ is.0 k one within))
-      ∙ ap (next_unnamed named) all_sent
+      rw (← all_sent)
+      (sym (find_none (is_in named) count last all
+      (λ k one within. rw stands at (is.0 k one within))))

@@ -1,9 +1,7 @@
 mod Refusals
-mod Kept
 mod Came
 mod Returns
 mod Rest
-mod Starts
 mod Stops
 pub mod Seen
 pub mod Named

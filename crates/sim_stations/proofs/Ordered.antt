@@ -12,6 +12,11 @@ use Rattle.std.specs.declared.cmp.Ordering.{Ordering}
 use Rattle.fed_types.specs.Bags.{same_bag}
 use Rattle.fed_types.specs.declared.bag_id.BagId.{BagId}
 
+-- the new entries are the old ones, but for one key
+abbrev Puts : {K X : Type 0} (same : K → K → Bool) → (old new : List (K × X)) → K → X → Type 0
+Puts {K} same old new key x =
+    (k : K) → lookup (same k) new ≡ cond (same key k) (Some x) (lookup (same k) old)
+
 -- ---- bags
 
 -- their order: by their bytes
@@ -30,14 +35,9 @@ module _ {X : Type 0} where
 
   -- a change of one entry
   pub with_by_order : (old new : List (BagId × X)) (bag : BagId) (x : X)
-      → ((b : BagId) → lookup (eq_by_cmp bag_cmp b) new
-      ≡ cond (eq_by_cmp bag_cmp bag b) (Some x) (lookup (eq_by_cmp bag_cmp b) old))
-      → (b : BagId) → lookup (same_bag b) new
-      ≡ cond (same_bag bag b) (Some x) (lookup (same_bag b) old)
+      → Puts (eq_by_cmp bag_cmp) old new bag x → Puts same_bag old new bag x
   with_by_order old new bag x =
-      subst (λ (same : BagId → BagId → Bool).
-      (b : BagId) → lookup (same b) new
-      ≡ cond (same bag b) (Some x) (lookup (same b) old)) same_by_order
+      subst (λ (same : BagId → BagId → Bool). Puts same old new bag x) same_by_order
 
 -- ---- numbers
 
@@ -56,14 +56,9 @@ module _ {X : Type 0} where
 
   -- one number has something else
   pub put_by_order : (old new : List (ℕ × X)) (number : ℕ) (x : X)
-      → ((k : ℕ) → lookup (eq_by_cmp nat_cmp k) new
-      ≡ cond (eq_by_cmp nat_cmp number k) (Some x) (lookup (eq_by_cmp nat_cmp k) old))
-      → (k : ℕ) → lookup (nat_eq k) new
-      ≡ cond (nat_eq number k) (Some x) (lookup (nat_eq k) old)
+      → Puts (eq_by_cmp nat_cmp) old new number x → Puts nat_eq old new number x
   put_by_order old new number x =
-      subst (λ (same : ℕ → ℕ → Bool).
-      (k : ℕ) → lookup (same k) new
-      ≡ cond (same number k) (Some x) (lookup (same k) old)) number_by_order
+      subst (λ (same : ℕ → ℕ → Bool). Puts same old new number x) number_by_order
 
 -- a look-up
 pub has_by_order : (numbers : List ℕ) (number : ℕ)

@@ -1,8 +1,9 @@
 -- The tree of a number is the one at its place.
 use Rattle.std.proofs.Common.{◌≡◌, ◌<◌, ℕ, suc, Bool, true, false, cond, eqb, arith}
 use Rattle.std.proofs.Common.{List, [], ◌∷◌, ◌++◌, length, get_or, Option, Some, None, IsSome}
-use Rattle.std.proofs.Common.{refl, sym, ap, subst, ◌∙◌}
+use Rattle.std.proofs.Common.{refl, ap, ◌∙◌, inl, inr}
 use Rattle.std.proofs.lemmas.Bool.{eqb-true}
+use Rattle.std.proofs.lemmas.Bool.Decides.{eqb_tells}
 use Rattle.std.specs.Map.{lookup}
 use Rattle.std.specs.Option.{option_map, option_or}
 use Rattle.std.specs.Prelude.{nat_eq, slice_set}
@@ -51,7 +52,7 @@ stands number (t ∷ trees) =
 
 pub at : (number : ℕ) (trees : List NumberedTree) (place : Option ℕ)
     → place ≡ place_of number trees → Stands number trees place
-at number trees place is = subst (Stands number trees) (sym is) (stands number trees)
+at number trees place is = rw is (stands number trees)
 
 -- nothing was declared
 pub no_places : (places : List (ℕ × ℕ)) (trees : List NumberedTree) → places ≡ [] → trees ≡ []
@@ -60,31 +61,23 @@ unfolding place_of
 no_places places trees empty none = rw (empty, none) (λ n. refl)
 
 -- a number without a tree has no place
-no_tree : IsSome {T = Files} None → ⊥
-no_tree there = cc there
-
 no_place : (number : ℕ) (trees : List NumberedTree) → tree_at number trees ≡ None
     → place_of number trees ≡ None
 no_place number trees none = go (place_of number trees) (stands number trees)
   where
     go : (place : Option ℕ) → Stands number trees place → place ≡ None
     go None it = refl
-    go (Some place) it =
-        absurd (no_tree (subst (λ (o : Option Files). IsSome o) none it.there))
+    go (Some place) it = absurd (cc (rw none at it.there))
 
 -- the places once one more tree was declared
 more : (number : ℕ) (trees : List NumberedTree) (t : NumberedTree)
     → place_of number (trees ++ t ∷ [])
     ≡ option_or (place_of number trees) (cond (eqb t.number number) (Some (length trees)) None)
 unfolding place_of
-more number [] t = go (eqb t.number number)
-  where
-    go : (same : Bool) → cond {A = Option ℕ} same (Some 0) None ≡ cond same (Some 0) None
-    go same = refl
+more number [] t = refl
 more number (x ∷ trees) t =
-    ap (λ (o : Option ℕ). cond (eqb x.number number) (Some 0) (option_map (λ p. suc p) o))
-    (more number trees t)
-    ∙ go (eqb x.number number) (place_of number trees) (eqb t.number number)
+    rw (more number trees t)
+    (go (eqb x.number number) (place_of number trees) (eqb t.number number))
   where
     go : (here : Bool) (place : Option ℕ) (there : Bool)
         → cond here (Some 0)
@@ -103,12 +96,8 @@ module _ (old new : List (ℕ × ℕ)) (number : ℕ) (files : Files) (trees : L
       ≡ cond (nat_eq key n) (Some place) (lookup (nat_eq n) old))
       → ArePlaces new (trees ++ record { number = number; files = files } ∷ [])
   places_of_more key place keyed placed put n =
-      put n
-      ∙ ap (λ (k : ℕ). cond (eqb k n) (Some place) (lookup (nat_eq n) old)) keyed
-      ∙ ap (λ (p : ℕ). cond (eqb number n) (Some p) (lookup (nat_eq n) old)) placed
-      ∙ ap (λ (o : Option ℕ). cond (eqb number n) (Some (length trees)) o) (are n)
-      ∙ go (eqb number n) refl
-      ∙ sym (more n trees (record { number = number; files = files }))
+      rw (put n, keyed, placed, are n, more n trees (record { number = number; files = files }))
+      (go (eqb number n) refl)
     where
       or_none : (o : Option ℕ) → o ≡ option_or o None
       or_none None = refl
@@ -117,10 +106,7 @@ module _ (old new : List (ℕ × ℕ)) (number : ℕ) (files : Files) (trees : L
       go : (same : Bool) → eqb number n ≡ same
           → cond same (Some (length trees)) (place_of n trees)
           ≡ option_or (place_of n trees) (cond same (Some (length trees)) None)
-      go true e =
-          ap (λ (o : Option ℕ). option_or o (Some (length trees)))
-          (sym (ap (λ (m : ℕ). place_of m trees) (sym (eqb-true number n e))
-          ∙ no_place number trees none))
+      go true e = rw (← eqb-true number n e, no_place number trees none)
       go false e = or_none (place_of n trees)
 
 -- files that are put leave each tree at its place
@@ -128,53 +114,37 @@ place_of-put : (n number : ℕ) (files : Files) (trees : List NumberedTree)
     → place_of n (put_tree number files trees) ≡ place_of n trees
 unfolding place_of put_tree
 place_of-put n number files [] = refl
-place_of-put n number files (t ∷ trees) =
-    go (eqb t.number number) refl (place_of-put n number files trees)
-  where
-    go : (same : Bool) → eqb t.number number ≡ same
-        → place_of n (put_tree number files trees) ≡ place_of n trees
-        → place_of n (cond same (record { number = number; files = files } ∷ trees)
-        (t ∷ put_tree number files trees))
-        ≡ place_of n (t ∷ trees)
-    go true is later =
-        ap (λ (m : ℕ). cond (eqb m n) (Some 0) (option_map (λ p. suc p) (place_of n trees)))
-        (sym (eqb-true t.number number is))
-    go false is later =
-        ap (λ (o : Option ℕ). cond (eqb t.number n) (Some 0) (option_map (λ p. suc p) o)) later
+place_of-put n number files (t ∷ trees) = elim (eqb_tells t.number number) [
+  | inl h ↦ rw (h.0, h.1)
+  | inr h ↦ rw (h.0, place_of-put n number files trees)
+]
 
-pub places_of_put : (places : List (ℕ × ℕ)) (number : ℕ) (files : Files)
-    (trees : List NumberedTree) → ArePlaces places trees
-    → ArePlaces places (put_tree number files trees)
-places_of_put places number files trees are n =
-    are n ∙ sym (place_of-put n number files trees)
+places_of_put : (places : List (ℕ × ℕ)) (number : ℕ) (files : Files) (trees : List NumberedTree)
+    → ArePlaces places trees → ArePlaces places (put_tree number files trees)
+places_of_put places number files trees are n = rw (place_of-put n number files trees) (are n)
 
 -- a tree that was found at its place, in the trees that are seen as these
-module _ (number place : ℕ) (inside now : List NumberedTree) (seen : inside ≡ now)
+module _ (number : ℕ) {place : ℕ} {inside now : List NumberedTree} (seen : inside ≡ now)
     (found : Some place ≡ place_of number now) where
   it_is : IsAt number inside place
-  it_is = subst (λ (ts : List NumberedTree). IsAt number ts place) (sym seen)
-      (at number now (Some place) found)
+  it_is = rw seen (at number now (Some place) found)
 
   pub in_range : place < length inside
   in_range = it_is.within
 
-  pub found_tree : (tree : NumberedTree) → tree ≡ get_or inside place tree
-      → Some tree.files ≡ tree_at number now
-  found_tree tree is = it_is.tree tree is ∙ ap (tree_at number) seen
+  module _ {tree : NumberedTree} (is : tree ≡ get_or inside place tree) where
+    pub found_tree : Some tree.files ≡ tree_at number now
+    found_tree = rw (← seen) (it_is.tree tree is)
 
-  -- what is written there is put under its number
-  pub written : (tree : NumberedTree) → tree ≡ get_or inside place tree → (files : Files)
-      → slice_set inside place (record { number = tree.number; files = files })
-      ≡ put_tree number files now
-  written tree is files =
-      it_is.put (record { number = tree.number; files = files }) (it_is.numbered tree is)
-      ∙ ap (put_tree number files) seen
+    -- what is written there is put under its number
+    pub written : (files : Files)
+        → slice_set inside place (record { number = tree.number; files = files })
+        ≡ put_tree number files now
+    written files =
+        rw (← seen)
+        (it_is.put (record { number = tree.number; files = files }) (it_is.numbered tree is))
 
-  pub still_placed : (places : List (ℕ × ℕ)) → ArePlaces places inside
-      → (tree : NumberedTree) → tree ≡ get_or inside place tree → (files : Files)
-      → ArePlaces places
-      (slice_set inside place (record { number = tree.number; files = files }))
-  still_placed places are tree is files =
-      subst (λ (ts : List NumberedTree). ArePlaces places ts) (sym (written tree is files))
-      (places_of_put places number files now
-      (subst (λ (ts : List NumberedTree). ArePlaces places ts) seen are))
+    pub still_placed : (places : List (ℕ × ℕ)) → ArePlaces places inside → (files : Files)
+        → ArePlaces places (slice_set inside place (record { number = tree.number; files = files }))
+    still_placed places are files =
+        rw (written files) (places_of_put places number files now (rw seen at are))

@@ -1,6 +1,6 @@
 -- Files that are put under the number of a tree that was declared.
 use Rattle.std.proofs.Common.{◌≡◌, ℕ, Bool, true, false, cond, List, [], ◌∷◌, eqb, Option}
-use Rattle.std.proofs.Common.{Some, None, refl, sym, ap, ◌∙◌}
+use Rattle.std.proofs.Common.{Some, None, refl}
 use Rattle.std.proofs.lemmas.Bool.{eqb-true}
 use Rattle.bag_tree.specs.declared.fault.TreeFault.{TreeFault}
 use Rattle.bag_tree.specs.Tree.{Files, fault_of_added}
@@ -22,21 +22,16 @@ put_back number files (t ∷ trees) is =
         → cond b (record { number = number; files = files } ∷ trees)
         (t ∷ put_tree number files trees) ≡ t ∷ trees
     go true same later is =
-        ap (λ n. record { number = n; files = files } ∷ trees) (sym (eqb-true t.number number same))
-        ∙ ap (λ (f : Files). record { number = t.number; files = f } ∷ trees) (files_are is)
-      where
-        files_are : Some t.files ≡ Some files → files ≡ t.files
-        files_are e = cc
-    go false other later is = ap (λ (ts : List NumberedTree). t ∷ ts) (later is)
+        let files_are : t.files ≡ files = cc is in
+        rw (← eqb-true t.number number same, ← files_are)
+    go false other later is = rw (later is)
 
 -- the tree with a file more, where it can have it
 pub filed : (number : ℕ) (path bytes : List ℕ) (files : Files) (trees : List NumberedTree)
     → tree_at number trees ≡ Some files
     → put_tree number (files_after path bytes files) trees
     ≡ trees_with_file number path bytes (tree_at number trees) trees
-filed number path bytes files trees is =
-    go (fault_of_added files path bytes)
-    ∙ ap (λ (o : Option Files). trees_with_file number path bytes o trees) (sym is)
+filed number path bytes files trees is = rw is (go (fault_of_added files path bytes))
   where
     go : (fault : Option TreeFault)
         → put_tree number (files_unless path bytes files fault) trees

@@ -1,6 +1,7 @@
 -- One bag more is seen.
-use Rattle.std.proofs.Common.{◌≡◌, ℕ, Bool, true, false, cond, List, [], ◌∷◌, ◌++◌, Option, Some}
-use Rattle.std.proofs.Common.{None, IsSome, refl, sym, ap, subst, ◌∙◌}
+use Rattle.std.proofs.Common.{◌≡◌, ℕ, cond, List, [], ◌∷◌, ◌++◌, Option, Some, None, IsSome, refl}
+use Rattle.std.proofs.Common.{inl, inr}
+use Rattle.std.proofs.lemmas.Bool.{cases_Bool}
 use Rattle.std.specs.Map.{lookup}
 use Rattle.std.specs.Option.{option_or}
 use Rattle.fed_types.specs.declared.bag_id.BagId.{BagId}
@@ -20,15 +21,10 @@ first_of-push : (bag : BagId) (seen : List SeenBag) (s : SeenBag)
     ≡ option_or (first_of bag seen) (cond (same_bag s.bag bag) (Some s.tree) None)
 unfolding first_of
 first_of-push bag [] s = refl
-first_of-push bag (x ∷ seen) s =
-    ap (λ (o : Option ℕ). cond (same_bag x.bag bag) (Some x.tree) o) (first_of-push bag seen s)
-    ∙ go (same_bag x.bag bag) (cond (same_bag s.bag bag) (Some s.tree) None)
-  where
-    go : (t : Bool) (o : Option ℕ)
-        → cond t (Some x.tree) (option_or (first_of bag seen) o)
-        ≡ option_or (cond t (Some x.tree) (first_of bag seen)) o
-    go true o = refl
-    go false o = refl
+first_of-push bag (x ∷ seen) s = elim (cases_Bool (same_bag x.bag bag)) [
+  | inl e ↦ rw e
+  | inr e ↦ rw (e, first_of-push bag seen s)
+]
 
 -- what is there stays
 or_there : (o p : Option ℕ) → IsSome o → o ≡ option_or o p
@@ -44,16 +40,11 @@ pub seen_again : (firsts : Firsts) (bag : BagId) (tree : ℕ) → IsSome (lookup
     → (seen : List SeenBag) → Represents firsts seen
     → Represents firsts (seen ++ record { bag = bag; tree = tree } ∷ [])
 seen_again firsts bag tree there seen stands b =
-    go (same_bag bag b) refl ∙ sym (first_of-push b seen (record { bag = bag; tree = tree }))
-  where
-    go : (t : Bool) → same_bag bag b ≡ t
-        → lookup (same_bag b) firsts ≡ option_or (first_of b seen) (cond t (Some tree) None)
-    go true e =
-        stands b ∙ or_there (first_of b seen) (Some tree)
-        (subst IsSome (stands b)
-        (subst (λ (x : BagId). IsSome (lookup (same_bag x) firsts))
-        ((same_bag_decides bag b).0 e) there))
-    go false e = stands b ∙ or_none (first_of b seen)
+    rw (first_of-push b seen (record { bag = bag; tree = tree }), ← stands b)
+    (elim (cases_Bool (same_bag bag b)) [
+      | inl e ↦ rw e (or_there _ _ (rw ((same_bag_decides bag b).0 e) at there))
+      | inr e ↦ rw e (or_none _)
+    ])
 
 -- one that wasn't seen is seen first
 pub seen_first : (old new : Firsts) (bag : BagId) (tree : ℕ) → lookup (same_bag bag) old ≡ None
@@ -62,17 +53,11 @@ pub seen_first : (old new : Firsts) (bag : BagId) (tree : ℕ) → lookup (same_
     → (seen : List SeenBag) → Represents old seen
     → Represents new (seen ++ record { bag = bag; tree = tree } ∷ [])
 seen_first old new bag tree none put seen stands b =
-    put b ∙ go (same_bag bag b) refl
-    ∙ sym (first_of-push b seen (record { bag = bag; tree = tree }))
-  where
-    go : (t : Bool) → same_bag bag b ≡ t
-        → cond t (Some tree) (lookup (same_bag b) old)
-        ≡ option_or (first_of b seen) (cond t (Some tree) None)
-    go true e =
-        ap (λ (o : Option ℕ). option_or o (Some tree))
-        (sym none ∙ ap (λ (x : BagId). lookup (same_bag x) old) ((same_bag_decides bag b).0 e)
-        ∙ stands b)
-    go false e = stands b ∙ or_none (first_of b seen)
+    rw (put b, first_of-push b seen (record { bag = bag; tree = tree }), ← stands b)
+    (elim (cases_Bool (same_bag bag b)) [
+      | inl e ↦ rw (e, ← (same_bag_decides bag b).0 e, none)
+      | inr e ↦ rw e (or_none _)
+    ])
 
 -- the number of a tree, and 0 where there is none
 unfoldable pub tree_or_0 : Option ℕ → ℕ
@@ -84,10 +69,7 @@ pub tree_of_first : (bag : BagId) (seen : List SeenBag)
     → tree_or_0 (first_of bag seen) ≡ first_tree bag seen
 unfolding first_of first_tree tree_or_0
 tree_of_first bag [] = refl
-tree_of_first bag (s ∷ seen) = go (same_bag s.bag bag) (tree_of_first bag seen)
-  where
-    go : (t : Bool) → tree_or_0 (first_of bag seen) ≡ first_tree bag seen
-        → tree_or_0 (cond t (Some s.tree) (first_of bag seen))
-        ≡ cond t s.tree (first_tree bag seen)
-    go true later = refl
-    go false later = later
+tree_of_first bag (s ∷ seen) = elim (cases_Bool (same_bag s.bag bag)) [
+  | inl e ↦ rw e
+  | inr e ↦ rw e (tree_of_first bag seen)
+]

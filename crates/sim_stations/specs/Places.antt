@@ -9,7 +9,8 @@ use Rattle.world_law.specs.Trees.{NumberedTree}
 unfoldable pub place_of : (number : ℕ) → List NumberedTree → Option ℕ
 place_of number [] = None
 place_of number (tree ∷ trees) =
-    if tree.number == number then Some 0 else option_map (λ place. suc place) (place_of number trees)
+    if tree.number == number then Some 0 else option_map (λ place. suc place)
+    (place_of number trees)
 
 -- the entries are the numbers of these trees, each with its place
 abbrev pub ArePlaces : List (ℕ × ℕ) → List NumberedTree → Type 0

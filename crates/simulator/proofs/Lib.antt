@@ -1,4 +1,3 @@
-pub mod Answers
 pub mod Sent
 pub mod Places
 pub mod Stands

@@ -1,6 +1,7 @@
 -- A run of no lines, of one line more, and of all of them.
 use Rattle.std.proofs.Common.{◌≡◌, ℕ, suc, ◌+◌, ◌<◌, ◌≤◌, List, [], ◌∷◌, ◌++◌, length, take}
-use Rattle.std.proofs.Common.{get_or, Option, sym, ap, ◌∙◌, arith, refl}
+use Rattle.std.proofs.Common.{get_or, Option, arith, refl}
+use Rattle.std.proofs.Math.Nat.{add-zero}
 use Rattle.std.proofs.lemmas.List.{take_more, take_all, length-take-le}
 use Rattle.schedule.specs.declared.command.Command.{Command}
 use Rattle.schedule.specs.Plans.{Plan}
@@ -16,12 +17,10 @@ pub run_from-push : (number : ℕ) (w : World) (lines : List (Option Command))
     → after_line (run_from number w lines) (number + length lines) line
     ≡ run_from number w (lines ++ line ∷ [])
 unfolding run_from
-run_from-push number w [] line =
-    let at : number + 0 ≡ number = omega arith in ap (λ n. after_line w n line) at
+run_from-push number w [] line = rw add-zero
 run_from-push number w (first ∷ lines) line =
-    let at : number + suc (length lines) ≡ (number + 1) + length lines = omega arith in
-    ap (λ n. after_line (run_from (number + 1) (after_line w number first) lines) n line) at
-    ∙ run_from-push (number + 1) (after_line w number first) lines line
+    let same : number + suc (length lines) ≡ (number + 1) + length lines = omega arith in
+    rw same (run_from-push (number + 1) (after_line w number first) lines line)
 
 pub run_from-more : (first index : ℕ) (w : World) (lines : List (Option Command))
     (line : Option Command) → index < length lines → line ≡ get_or lines index line
@@ -30,15 +29,11 @@ pub run_from-more : (first index : ℕ) (w : World) (lines : List (Option Comman
 run_from-more first index w lines line within is =
     let most : index ≤ length lines = omega (arith, within) in
     let count : length (take index lines) ≡ index = length-take-le index lines most in
-    let more : take (index + 1) lines ≡ take index lines ++ line ∷ [] =
-    take_more lines index line within ∙ ap (λ l. take index lines ++ l ∷ []) (sym is) in
-    ap (λ k. after_line (run_from first w (take index lines)) (first + k) line) (sym count)
-    ∙ (run_from-push first w (take index lines) line ∙ ap (run_from first w) (sym more))
+    rw (take_more lines index line within, ← is)
+    (rw count at (run_from-push first w (take index lines) line))
 
 pub run_from-all : (plan : Plan) (first index : ℕ) → first ≡ plan.skipped + 2
     → length plan.lines ≤ index
     → run_from first (new_world plan.members) (take index plan.lines) ≡ run_of plan
 unfolding run_of
-run_from-all plan first index is past =
-    ap (run_from first (new_world plan.members)) (take_all index plan.lines past)
-    ∙ ap (λ n. run_from n (new_world plan.members) plan.lines) is
+run_from-all plan first index is past = rw (take_all index plan.lines past, is)

@@ -1,11 +1,10 @@
 -- A member is asked.
-use Rattle.std.proofs.Common.{◌≡◌, ℕ, map, Option, None, Ok, refl, sym, ap, ◌∙◌}
+use Rattle.std.proofs.Common.{◌≡◌, ℕ, map, None, Ok, refl}
 use Rattle.fed_types.specs.Slots.{SlotName}
 use Rattle.cell_device.specs.Devices.{Device}
 use Rattle.dgram.specs.declared.body.Body.TheVariants.{Ask}
 use Rattle.proposer.specs.VolatileStates.{VolatileState}
 use Rattle.site.specs.declared.answer.Answer.{Answer}
-use Rattle.site.specs.declared.answer.Line.{Line}
 use Rattle.site.specs.Answered.{IsAnswered}
 use Rattle.site.specs.Calls.{Asks, on_ask}
 use Rattle.site.specs.Datagrams.{handed_out}
@@ -20,9 +19,5 @@ pub asked : {C : Type 0} (device : C → Device) (s : OpenSite C) (volatile : Vo
 unfolding on_ask
 asked device s volatile slot same_slot to from answer stands e f line sends = record {
   keeps = refl;
-  gives = (
-    ap (λ (l : Option Line). Ok l) (sym line),
-    sends ∙ (λ i. one_datagram s (e i) (Ask (f i)) to),
-    stands,
-  );
+  gives = (cc, rw (e, f) at sends, stands);
 }

@@ -1,18 +1,17 @@
 -- What a call of a site whose records wait leaves of its book.
-use Rattle.std.proofs.Common.{◌≡◌, inl, inr, true, false, List, [], ◌∷◌, ◌++◌, length, take}
-use Rattle.std.proofs.Common.{Option, Some, None, Result, Ok, Err, refl, sym, ap, subst, ◌∙◌, arith}
+use Rattle.std.proofs.Common.{◌≡◌, inl, inr, false, List, [], ◌∷◌, ◌++◌, length}
+use Rattle.std.proofs.Common.{Option, Some, None, Result, Ok, Err, refl, sym, ap, ◌∙◌, arith}
 use Rattle.std.proofs.Common.{length-append, append-nil, append_assoc}
 use Rattle.std.proofs.lemmas.List.{take-append-le}
 use Rattle.std.specs.Prelude.{IsErrOf, IsSome}
 use Rattle.cell_device.specs.Devices.{Device}
-use Rattle.records.specs.declared.owner.Owner.{Owner}
 use Rattle.records.specs.declared.record.Record.{Record}
 use Rattle.book.specs.declared.fault.CommitFault.{CommitFault}
 use Rattle.book.specs.declared.fault.CommitFault.TheVariants as commits
 use Rattle.book.specs.declared.waiting.Waiting.{Waiting}
 use Rattle.book.specs.Batches.{BatchCell, HoldsFirst}
 use Rattle.book.specs.Committed.{Commits}
-use Rattle.book.specs.OpenBooks.{OpenBook, HoldsText}
+use Rattle.book.specs.OpenBooks.{OpenBook}
 use Rattle.proposer.specs.VolatileStates.{VolatileState}
 use Rattle.site.specs.declared.answer.Answer.{Answer}
 use Rattle.site.specs.declared.fault.SiteFault.{SiteFault}
@@ -34,20 +33,17 @@ pub record Grows {W : Type 0} (old new : OpenBook W) : Type 0 where
 pub grows_not : {W : Type 0} (old new : OpenBook W) → new ≡ old → Grows old new
 grows_not old new is = record {
   more = [];
-  records = ap (λ b. b.records) is ∙ sym (append-nil old.records);
-  opened = ap (λ b. b.needs_opening) is;
-  owner = ap (λ b. b.owner) is;
+  records = cc (is, append-nil old.records);
+  opened = cc;
+  owner = cc;
 }
 
 pub grows_twice : {W : Type 0} (a b c : OpenBook W) → Grows a b → Grows b c → Grows a c
 grows_twice a b c first second = record {
   more = first.more ++ second.more;
-  records =
-      second.records
-      ∙ (ap (λ (l : List Record). l ++ second.more) first.records
-      ∙ append_assoc a.records first.more second.more);
-  opened = second.opened ∙ first.opened;
-  owner = second.owner ∙ first.owner;
+  records = rw (second.records, first.records, append_assoc);
+  opened = cc;
+  owner = cc;
 }
 
 committed : (old new : OpenBook Waiting) (r : Record) (result : Result (Unit {0}) CommitFault)
@@ -60,10 +56,7 @@ committed old new r (Ok x) opened other does = record {
   owner = does.whose;
 }
 committed old new r (Err commits.Device) opened other does =
-    absurd (true_is_other (does.fuse _ refl).0)
-  where
-    true_is_other : false ≡ true → ⊥
-    true_is_other e = absurd (cc e)
+    absurd (cc ((does.fuse _ refl).0))
 committed old new r (Err commits.Memory) opened other does =
     let same = does.memory refl in
     record {
@@ -95,10 +88,7 @@ no_device : (old new : OpenBook Waiting) (r : Option Record)
     → Keeps no_cell r (Err faults.Device) old new → IsSome r → ⊥
 no_device old new None keeps some = absurd (cc some)
 no_device old new (Some r) (inl (memory, same)) some = absurd (cc memory)
-no_device old new (Some r) (inr does) some = true_is_other (does.fuse _ refl).0
-  where
-    true_is_other : false ≡ true → ⊥
-    true_is_other e = absurd (cc e)
+no_device old new (Some r) (inr does) some = absurd (cc ((does.fuse _ refl).0))
 
 -- so it represents a volatile state again
 represents : (old new : OpenSite Waiting) (volatile : VolatileState) (e : Effect)
@@ -131,11 +121,11 @@ module _ {C : Type 0} (device : C → Device) where
       length-append old.records
           grows.more,
     );
-    text = λ opened. subst (λ (o : Owner). HoldsText o (take held.synced new.records)
-        (device held.cell).image) (sym grows.owner)
-        (subst (λ (l : List Record). HoldsText old.owner l (device held.cell).image)
-        (sym (ap (λ (l : List Record). take held.synced l) grows.records
-        ∙ take-append-le held.synced old.records grows.more holds.within)) (holds.text opened));
+    text = λ opened. rw (
+      grows.owner,
+      grows.records,
+      take-append-le held.synced old.records grows.more holds.within,
+    ) (holds.text opened);
   }
 
   -- the batch of a site that was called is one

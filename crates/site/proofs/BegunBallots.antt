@@ -1,7 +1,6 @@
 -- How beginning a ballot comes out.
-use Rattle.std.proofs.Common.{◌≡◌, inl, inr, Option, Some, None, Result, Ok, Err, refl, sym}
-use Rattle.std.proofs.Common.{ap, subst, List}
-use Rattle.std.specs.Prelude.{IsErrAnd, IsSome}
+use Rattle.std.proofs.Common.{◌≡◌, inl, inr, Option, Some, None, Result, Ok, Err, refl, List}
+use Rattle.std.specs.Prelude.{IsSome}
 use Rattle.fed_types.specs.Ballots.{BallotNumber}
 use Rattle.fed_types.specs.Faults.{IsOrFault}
 use Rattle.fed_types.specs.Slots.{SlotName}
@@ -13,7 +12,7 @@ use Rattle.proposer.specs.Faults.{next_or_spent}
 use Rattle.proposer.specs.Proposals.{next_ballot}
 use Rattle.proposer.specs.VolatileStates.{VolatileState}
 use Rattle.proposer.specs.UnderWay.{UnderWay, begins}
-use Rattle.site_tables.specs.Contents.{Contents, IsOf, Represents, RepresentsSame}
+use Rattle.site.specs.Contents.{Contents, IsOf, Represents, RepresentsSame}
 use Rattle.site.specs.declared.answer.Answer.{Answer}
 use Rattle.site.specs.declared.fault.SiteFault.{SiteFault}
 use Rattle.site.specs.declared.fault.SiteFault.TheVariants as faults
@@ -23,54 +22,24 @@ use Rattle.site.specs.inner.Begun.{IsOfBallot, Begins, BeginsBallot}
 -- the ballot that was begun is the next one
 pub next_of : (n : Option BallotNumber) (ballot : BallotNumber)
     → IsOrFault proposals.Memory (Ok ballot) (next_or_spent n) → n ≡ Some ballot
-next_of None ballot (inl e) = absurd (differ e)
-  where
-    differ : ◌≡◌ {A = Result BallotNumber ProposeFault} (Ok ballot) (Err proposals.RoundsSpent)
-        → ⊥
-    differ e = cc
-next_of None ballot (inr e) = absurd (differ e)
-  where
-    differ : ◌≡◌ {A = Result BallotNumber ProposeFault} (Ok ballot) (Err proposals.Memory) → ⊥
-    differ e = cc
-next_of (Some b) ballot (inl e) = ap (λ (x : BallotNumber). Some x) (sym (same e))
-  where
-    same : ◌≡◌ {A = Result BallotNumber ProposeFault} (Ok ballot) (Ok b) → ballot ≡ b
-    same e = cc
-next_of (Some b) ballot (inr e) = absurd (differ e)
-  where
-    differ : ◌≡◌ {A = Result BallotNumber ProposeFault} (Ok ballot) (Err proposals.Memory) → ⊥
-    differ e = cc
+next_of None ballot (inl e) = absurd (cc e)
+next_of None ballot (inr e) = absurd (cc e)
+next_of (Some b) ballot (inl e) = cc
+next_of (Some b) ballot (inr e) = absurd (cc e)
 
 -- and where the rounds are spent there is none
 pub none_left : (n : Option BallotNumber)
     → IsOrFault proposals.Memory (Err proposals.RoundsSpent) (next_or_spent n) → n ≡ None
 none_left None is = refl
-none_left (Some b) (inl e) = absurd (differ e)
-  where
-    differ : ◌≡◌ {A = Result BallotNumber ProposeFault} (Err proposals.RoundsSpent) (Ok b) → ⊥
-    differ e = cc
-none_left (Some b) (inr e) = absurd (differ e)
-  where
-    differ : ◌≡◌ {A = Result BallotNumber ProposeFault} (Err proposals.RoundsSpent)
-        (Err proposals.Memory) → ⊥
-    differ e = cc
+none_left (Some b) (inl e) = absurd (cc e)
+none_left (Some b) (inr e) = absurd (cc e)
 
 -- memory runs out only where a ballot is left
 pub one_left : (n : Option BallotNumber)
     → (n ≡ None → ◌≡◌ {A = Result BallotNumber ProposeFault} (Err proposals.Memory)
     (Err proposals.RoundsSpent)) → IsSome n
-one_left None spent = absurd (differ (spent refl))
-  where
-    differ : ◌≡◌ {A = Result BallotNumber ProposeFault} (Err proposals.Memory)
-        (Err proposals.RoundsSpent) → ⊥
-    differ e = cc
+one_left None spent = absurd (cc (spent refl))
 one_left (Some b) spent = refl
-
--- the result of a `?`
-pub begun_err_of : (r : Result (Record × Answer) SiteFault) (fault : SiteFault)
-    → IsErrAnd r (λ e. e ≡ fault) → r ≡ Err fault
-begun_err_of (Ok x) fault is = absurd is
-begun_err_of (Err e) fault is = ap (λ (f : SiteFault). Err f) is
 
 module _ (owner : Owner) (old new : Contents) (slot : SlotName)
     (result : Result (Record × Answer) SiteFault) where
@@ -89,8 +58,7 @@ module _ (owner : Owner) (old new : Contents) (slot : SlotName)
       → ◌≡◌ {A = Result BallotNumber ProposeFault} (Err fault) (Err proposals.RoundsSpent))
       → BeginsBallot owner old new slot result
   not_begun fault is same answer spent =
-      subst (λ (r : Result (Record × Answer) SiteFault). BeginsBallot owner old new slot r)
-      (sym is) (record {
+      rw is (record {
         order = same.of owner;
         begun = λ records volatile under of stands. go fault records volatile under
             (answer records volatile under of stands) (spent records volatile under of stands)
@@ -121,11 +89,10 @@ module _ (owner : Owner) (old new : Contents) (slot : SlotName)
         (next_or_spent (next_ballot owner.site slot records volatile.heard)))
         → BeginsBallot owner old new slot result
     begun_in_vain is next =
-        subst (λ (r : Result (Record × Answer) SiteFault). BeginsBallot owner old new slot r)
-        (sym is) (record {
+        rw is (record {
           order = order;
           begun = λ records volatile under of stands. (
-            subst IsSome (sym (next_of _ ballot (next records volatile under of stands))) refl,
+            rw (next_of _ ballot (next records volatile under of stands)) refl,
             begins under slot ballot,
             begun records volatile under stands,
           );
@@ -140,8 +107,7 @@ module _ (owner : Owner) (old new : Contents) (slot : SlotName)
         (next_or_spent (next_ballot owner.site slot records volatile.heard)))
         → BeginsBallot owner old new slot result
     ballot_begun new_record answer is of_ballot next =
-        subst (λ (r : Result (Record × Answer) SiteFault). BeginsBallot owner old new slot r)
-        (sym is) (record {
+        rw is (record {
           order = order;
           begun = λ records volatile under of stands. (
             ballot,

@@ -1,28 +1,19 @@
 -- What a commit makes of a site, by how it came out.
-use Rattle.std.proofs.Common.{◌≡◌, inl, inr, List, [], ◌∷◌, ◌++◌, Result, Ok, Err, refl, sym}
-use Rattle.std.proofs.Common.{ap, subst}
-use Rattle.std.specs.Prelude.{IsErrAnd}
+use Rattle.std.proofs.Common.{◌≡◌, inl, inr, [], ◌∷◌, ◌++◌, Result, Ok, Err, refl}
 use Rattle.cell_device.specs.Devices.{Device}
 use Rattle.records.specs.declared.record.Record.{Record}
 use Rattle.book.specs.declared.fault.CommitFault.{CommitFault}
 use Rattle.book.specs.declared.fault.CommitFault.TheVariants as commits
-use Rattle.book.specs.OpenBooks.{OpenBook}
 use Rattle.proposer.specs.VolatileStates.{VolatileState}
 use Rattle.proposer.specs.UnderWay.{UnderWay}
-use Rattle.site_tables.specs.Contents.{Contents, IsOf, RepresentsSame}
-use Rattle.site_tables.specs.Contents as tables
+use Rattle.site.specs.Contents.{Contents, IsOf, RepresentsSame}
+use Rattle.site.specs.Contents as tables
 use Rattle.site.specs.declared.fault.SiteFault.{SiteFault}
 use Rattle.site.specs.declared.fault.SiteFault.TheVariants as faults
 use Rattle.book.specs.Committed.{Commits}
 use Rattle.site.specs.Faults.{commit_fault}
 use Rattle.site.specs.Sites.{OpenSite, IsInOrder}
 use Rattle.site.specs.inner.Concluded.{Stands, noted_volatile, noted_under, IsCommitted}
-
--- the result of a `?`
-pub err_of : (r : Result (Unit {0}) SiteFault) (fault : SiteFault)
-    → IsErrAnd r (λ e. e ≡ fault) → r ≡ Err fault
-err_of (Ok x) fault is = absurd is
-err_of (Err e) fault is = ap (λ (f : SiteFault). Err f) is
 
 module _ {C : Type 0} (device : C → Device) (old new : OpenSite C) (r : Record) where
   -- tables that represent the same, over the same records
@@ -31,8 +22,7 @@ module _ {C : Type 0} (device : C → Device) (old new : OpenSite C) (r : Record
     pub same_stands : (volatile : VolatileState) (under : UnderWay) → Stands old volatile under
         → Stands new volatile under
     same_stands volatile under stands =
-        subst (λ (rs : List Record). tables.Represents new.tables rs volatile under) (sym records)
-        (same.stands old.book.records volatile under stands)
+        rw records (same.stands old.book.records volatile under stands)
 
     pub same_order : IsInOrder old → IsInOrder new
     same_order order = record {
@@ -51,14 +41,12 @@ module _ {C : Type 0} (device : C → Device) (old new : OpenSite C) (r : Record
       → new.book ≡ old.book → RepresentsSame old.tables new.tables
       → IsCommitted device old new r result
   not_tried result is book same =
-      subst (λ (x : Result (Unit {0}) SiteFault). IsCommitted device old new r x) (sym is) (record {
+      rw is (record {
         book = inl (refl, book);
         stands = tt;
-        same = same_stands (ap (λ (b : OpenBook C). b.records) book)
-            (ap (λ (b : OpenBook C). b.owner) book) same;
+        same = same_stands (cc) (cc) same;
         faults = inl refl;
-        order = same_order (ap (λ (b : OpenBook C). b.records) book)
-            (ap (λ (b : OpenBook C). b.owner) book) same;
+        order = same_order (cc) (cc) same;
       })
 
   -- the commit was refused
@@ -67,7 +55,7 @@ module _ {C : Type 0} (device : C → Device) (old new : OpenSite C) (r : Record
       → Commits device old.book r (Err fault) new.book → RepresentsSame old.tables new.tables
       → IsCommitted device old new r result
   refused result commits.Device is opened c same =
-      subst (λ (x : Result (Unit {0}) SiteFault). IsCommitted device old new r x) (sym is) (record {
+      rw is (record {
         book = inr c;
         stands = tt;
         same = same_stands (c.device_failed refl).0 c.whose same;
@@ -75,7 +63,7 @@ module _ {C : Type 0} (device : C → Device) (old new : OpenSite C) (r : Record
         order = same_order (c.device_failed refl).0 c.whose same;
       })
   refused result commits.Memory is opened c same =
-      subst (λ (x : Result (Unit {0}) SiteFault). IsCommitted device old new r x) (sym is) (record {
+      rw is (record {
         book = inr c;
         stands = tt;
         same = same_stands (c.memory refl).records c.whose same;
@@ -114,7 +102,4 @@ module _ {C : Type 0} (device : C → Device) (old new : OpenSite C) (r : Record
       all_stands : (volatile : VolatileState) (under : UnderWay) → Stands old volatile under
           → Stands new (noted_volatile volatile under r) (noted_under under r)
       all_stands volatile under s =
-          subst (λ (rs : List Record). tables.Represents new.tables rs
-          (noted_volatile volatile under r)
-          (noted_under under r)) (sym c.committed.0)
-          (stands volatile under (same.stands old.book.records volatile under s))
+          rw (c.committed.0) (stands volatile under (same.stands old.book.records volatile under s))

@@ -1,9 +1,7 @@
 -- From what a site's last step does to the answer of the definitions.
-use Rattle.std.proofs.Common.{◌≡◌, ◌⊎◌, inl, inr, ◌||◌, ℕ, Bool, true, false, cond, List}
-use Rattle.std.proofs.Common.{map, Option, Some, None, IsSome, Result, Ok, Err, refl, sym, ap}
-use Rattle.std.proofs.Common.{subst}
-use Rattle.std.proofs.Common.{◌∙◌}
-use Rattle.std.specs.Prelude.{IsErrAnd}
+use Rattle.std.proofs.Common.{◌≡◌, ◌⊎◌, inl, inr, ◌||◌, ℕ, Bool, true, false, cond, List, map}
+use Rattle.std.proofs.Common.{Option, Some, None, IsSome, Result, Ok, Err, refl, ◌∙◌}
+use Rattle.std.proofs.lemmas.Bool.{cond_both}
 use Rattle.fed_types.specs.declared.vote.Vote.{Vote}
 use Rattle.fed_types.specs.Ballots.{BallotNumber, below}
 use Rattle.fed_types.specs.Slots.{SlotName}
@@ -11,7 +9,7 @@ use Rattle.cell_device.specs.Devices.{Device}
 use Rattle.records.specs.declared.entry.Entry.{Entry}
 use Rattle.records.specs.declared.record.Record.{Record}
 use Rattle.records.specs.SlotStates.{promised_of, vote_of}
-use Rattle.book.specs.OpenBooks.{OpenBook}
+use Rattle.acceptor.specs.declared.decision.Decision.{Decision}
 use Rattle.acceptor.specs.Decisions.{prepare_decision, accept_decision, promises, votes}
 use Rattle.acceptor.specs.Decisions.{votes_again}
 use Rattle.acceptor.specs.Decisions.{refuses, on_prepare, is_vote, is_in_ballot, on_new_accept}
@@ -22,18 +20,12 @@ use Rattle.site.specs.declared.answer.Line.{Line}
 use Rattle.site.specs.declared.fault.SiteFault.{SiteFault}
 use Rattle.site.specs.declared.fault.SiteFault.TheVariants as faults
 use Rattle.book.specs.Committed.{Commits}
-use Rattle.site.specs.Answered.{Keeps, Gives, IsAnswered, commit_of}
+use Rattle.site.specs.Answered.{Keeps, Gives, IsAnswered}
 use Rattle.site.specs.Datagrams.{datagram}
 use Rattle.site.specs.Effects.{Effect, record_of}
 use Rattle.site.specs.Sites.{OpenSite, Represents}
 use Rattle.site.specs.inner.Concluded.{Stands, volatile_after, under_after, Concludes, IsCommitted}
 use Rattle.site.specs.inner.Concluded.{committed}
-
--- the answer of a `?`
-pub answer_err_of : (r : Result Answer SiteFault) (fault : SiteFault)
-    → IsErrAnd r (λ e. e ≡ fault) → r ≡ Err fault
-answer_err_of (Ok x) fault is = absurd is
-answer_err_of (Err e) fault is = ap (λ (f : SiteFault). Err f) is
 
 -- ---- a commit as the last step
 module _ {C : Type 0} (device : C → Device) (old new : OpenSite C) (r : Record) where
@@ -46,37 +38,22 @@ module _ {C : Type 0} (device : C → Device) (old new : OpenSite C) (r : Record
     stands = tt;
     same = c.same;
     faults = only c.faults;
-    says = λ a e. absurd (no_answer e);
+    says = λ a e. absurd (cc e);
   }
     where
-      no_answer : {a : Answer} → ◌≡◌ {A = Result Answer SiteFault} (Err fault) (Ok a) → ⊥
-      no_answer e = cc
-
-      err_of : {f g : SiteFault} → ◌≡◌ {A = Result (Unit {0}) SiteFault} (Err f) (Err g) → f ≡ g
-      err_of e = cc
-
       only : (fault ≡ faults.Memory) ⊎ (fault ≡ faults.Device)
           → (fault ≡ faults.Memory) ⊎ ((fault ≡ faults.Device) × IsSome (Some r))
       only (inl e) = inl e
       only (inr e) = inr (e, refl)
-
-      tried : (f : SiteFault) → (f ≡ faults.Memory) ⊎ (f ≡ faults.Device)
-          → Commits device old.book r (committed (Err f)) new.book
-          → Commits device old.book r (commit_of (Err f)) new.book
-      tried f (inl e) c = subst (λ (x : SiteFault). Commits device old.book r (commit_of (Err x))
-          new.book) (sym e) (subst (λ (x : SiteFault). Commits device old.book r
-          (committed (Err x)) new.book) e c)
-      tried f (inr e) c = subst (λ (x : SiteFault). Commits device old.book r (commit_of (Err x))
-          new.book) (sym e) (subst (λ (x : SiteFault). Commits device old.book r
-          (committed (Err x)) new.book) e c)
 
       keeps : (fault ≡ faults.Memory) ⊎ (fault ≡ faults.Device)
           → (◌≡◌ {A = Result (Unit {0}) SiteFault} (Err fault) (Err faults.Memory) ×
           (new.book ≡ old.book))
           ⊎ Commits device old.book r (committed (Err fault)) new.book
           → Keeps device (Some r) (Err fault) old.book new.book
-      keeps f (inl (e, same)) = inl (ap (λ (x : SiteFault). Err x) (err_of e), same)
-      keeps f (inr c) = inr (tried fault f c)
+      keeps f (inl (e, same)) = inl (cc e, same)
+      keeps (inl e) (inr c) = inr (rw e (rw e at c))
+      keeps (inr e) (inr c) = inr (rw e (rw e at c))
 
 -- ---- a conclusion as an answer
 module _ {C : Type 0} (device : C → Device) (old mid new : OpenSite C)
@@ -94,7 +71,7 @@ module _ {C : Type 0} (device : C → Device) (old mid new : OpenSite C)
       → Represents new e.volatile)
       → Gives old new volatile e result
   gives (Ok answer) c stands says sends after = (
-    says ∙ ap (λ (l : Option Line). Ok l) (sym (c.says answer refl).0),
+    cc ((c.says answer refl).0),
     (c.says answer refl).1 ∙ sends,
     after (c.stands volatile under stands),
   )
@@ -102,10 +79,8 @@ module _ {C : Type 0} (device : C → Device) (old mid new : OpenSite C)
     where
       go : (fault ≡ faults.Memory) ⊎ ((fault ≡ faults.Device) × IsSome e.commits)
           → Gives old new volatile e (Err fault)
-      go (inl is) = subst (λ (f : SiteFault). Gives old new volatile e (Err f)) (sym is)
-          (under, c.same volatile under stands)
-      go (inr (is, some)) = subst (λ (f : SiteFault). Gives old new volatile e (Err f)) (sym is)
-          some
+      go (inl is) = rw is (under, c.same volatile under stands)
+      go (inr (is, some)) = rw is some
 
   -- a conclusion is the answer, where the effect is what was concluded
   pub concluded : (result : Result Answer SiteFault)
@@ -116,7 +91,7 @@ module _ {C : Type 0} (device : C → Device) (old mid new : OpenSite C)
       → Represents new e.volatile)
       → IsAnswered device old new volatile e result
   concluded result c book stands says sends after = record {
-    keeps = subst (λ (b : OpenBook C). Keeps device e.commits result b new.book) book c.keeps;
+    keeps = rw (← book) c.keeps;
     gives = gives result c stands says sends after;
   }
 
@@ -142,15 +117,11 @@ pub prepare_starts_none : (slot : SlotName) (records : List Record) (ballot : Ba
 unfolding prepare_decision
 prepare_starts_none slot records ballot = go (promised_of slot records)
   where
-    by_test : (promised : BallotNumber) (t : Bool)
-        → IsNoRound (cond t (promises ballot (vote_of slot records))
-        (refuses ballot promised)).entry
-    by_test promised true = λ begun. refl
-    by_test promised false = tt
-
     go : (p : Option BallotNumber) → IsNoRound (on_prepare p (vote_of slot records) ballot).entry
     go None = λ begun. refl
-    go (Some promised) = by_test promised (below promised ballot)
+    go (Some promised) =
+        cond_both (below promised ballot) (promises ballot (vote_of slot records))
+        (refuses ballot promised) (λ (d : Decision). IsNoRound d.entry) (λ e begun. refl) (λ e. tt)
 
 pub accept_starts_none : (slot : SlotName) (records : List Record) (vote : Vote)
     → IsNoRound (accept_decision slot records vote).entry
@@ -158,16 +129,13 @@ unfolding accept_decision
 accept_starts_none slot records vote =
     go (promised_of slot records) (is_vote vote (vote_of slot records))
   where
-    by_test : (promised : BallotNumber) (t : Bool)
-        → IsNoRound (cond t (refuses vote.ballot promised) (votes vote)).entry
-    by_test promised true = tt
-    by_test promised false = λ begun. refl
-
     anew : (p : Option BallotNumber)
         → IsNoRound (on_new_accept p (vote_of slot records) vote).entry
     anew None = λ begun. refl
-    anew (Some promised) = by_test promised
-        (below vote.ballot promised || is_in_ballot vote.ballot (vote_of slot records))
+    anew (Some promised) =
+        cond_both (below vote.ballot promised || is_in_ballot vote.ballot (vote_of slot records))
+        (refuses vote.ballot promised) (votes vote) (λ (d : Decision). IsNoRound d.entry) (λ e. tt)
+        (λ e begun. refl)
 
     go : (p : Option BallotNumber) (t : Bool)
         → IsNoRound (cond t (votes_again vote) (on_new_accept p (vote_of slot records) vote)).entry

@@ -1,7 +1,6 @@
 -- From what the steps of a site do to what it does with a message of a member.
 use Rattle.std.proofs.Common.{◌≡◌, ◌⊎◌, inl, inr, ℕ, Bool, true, false, cond, List, [], ◌∷◌, ◌++◌}
-use Rattle.std.proofs.Common.{map, Option, Some, None, IsSome, Result, Ok, Err, refl, ap}
-use Rattle.std.proofs.Common.{◌∙◌}
+use Rattle.std.proofs.Common.{map, Option, Some, None, IsSome, Result, Ok, Err, refl, ap, ◌∙◌}
 use Rattle.std.specs.Prelude.{IsErrOf}
 use Rattle.fed_types.specs.declared.bag_id.BagId.{BagId}
 use Rattle.fed_types.specs.declared.vote.Vote.{Vote}
@@ -26,13 +25,12 @@ use Rattle.acceptor.specs.declared.decision.Decision.{Decision}
 use Rattle.acceptor.specs.Decisions.{prepare_decision, accept_decision}
 use Rattle.proposer.proofs.Stands.{at_here}
 use Rattle.proposer.specs.Proposals.{ready}
-use Rattle.proposer.specs.VolatileStates.{VolatileState, hears, promise_message}
+use Rattle.proposer.specs.VolatileStates.{VolatileState, hears, promise_message, refusal_message}
 use Rattle.proposer.specs.UnderWay.{UnderWay, waits}
-use Rattle.proposer.specs.VolatileStates.{refusal_message}
 use Rattle.learner.specs.LearnedBags.{learned_from, learned_of_known}
-use Rattle.site_tables.specs.Contents.{Contents, IsOf, RepresentsSame}
-use Rattle.site_tables.specs.Contents as tables
-use Rattle.site_tables.proofs.Heard.{hears_other, hears_known}
+use Rattle.site.specs.Contents.{Contents, IsOf, RepresentsSame}
+use Rattle.site.specs.Contents as tables
+use Rattle.site.proofs.Heard.{hears_other, hears_known}
 use Rattle.site.specs.declared.answer.Answer.{Answer}
 use Rattle.site.specs.declared.answer.Line.{Line}
 use Rattle.site.specs.declared.answer.Line.TheVariants as site_lines
@@ -222,7 +220,8 @@ module _ {C : Type 0} (device : C → Device) (old new : OpenSite C) (slot : Slo
         → HearsBody device old new slot (bodies.Known from bag) result
     unfolding on_body
     hears_told learned result some c volatile (under, stands) =
-        rw (← some) (concluded device old old new volatile under _ _ _ result c refl stands refl refl
+        rw (← some)
+        (concluded device old old new volatile under _ _ _ result c refl stands refl refl
         (λ after. (under, hears_it volatile under after)))
 
   -- ---- a vote
@@ -472,10 +471,11 @@ module _ {C : Type 0} (device : C → Device) (old new : OpenSite C) where
       rw none (says_dropped device old new volatile a dropped same stands)
 
   -- what is answered needs no opening
-  pub is_open : (volatile : VolatileState) (e : Effect) (result : Result Answer SiteFault)
-      → IsAnswered device old new volatile e result → IsErrOf result faults.NeedsOpen → ⊥
-  is_open volatile e result is fault =
-      rw fault at is.gives
+  pub is_open : (m : Message) (result : Result Answer SiteFault)
+      → HearsBody device old new m.slot m.body result → IsInOrder old
+      → IsErrOf result faults.NeedsOpen → ⊥
+  is_open m result hears_body order fault =
+      rw fault at (hears_body order.volatile.0 order.volatile.1).gives
 
 -- ---- what an answer says, of the answer that is given
 pub says_so : (a b : Answer) (line : Option Line) (datagrams : List (ℕ × List ℕ))

@@ -1,8 +1,13 @@
+pub mod Outcomes
+pub mod Inside
+pub mod Deposited
+pub mod Heard
+pub mod Noted
+pub mod Examples
 pub mod Sent
 pub mod Committed
 pub mod Conclusions
 pub mod HeardMessages
-pub mod Replies
 pub mod Asked
 pub mod Seen
 pub mod Registered
@@ -10,6 +15,5 @@ pub mod Refused
 pub mod Reopened
 pub mod BegunBallots
 pub mod StartedBallots
-pub mod Proposed
 pub mod Reports
 pub mod Batched

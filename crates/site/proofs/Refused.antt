@@ -1,6 +1,5 @@
 -- Calls that are refused.
-use Rattle.std.proofs.Common.{◌≡◌, inl, inr, Option, Some, None, Result, Err, refl, sym}
-use Rattle.std.proofs.Common.{subst, true, false, ◌∙◌}
+use Rattle.std.proofs.Common.{◌≡◌, inl, inr, Option, Some, None, Result, Err, refl, true, false}
 use Rattle.std.specs.Prelude.{IsErrOf, ◌↔◌}
 use Rattle.fed_types.specs.declared.bag_id.BagId.{BagId}
 use Rattle.fed_types.specs.Faults.{IsOrFault}
@@ -13,7 +12,7 @@ use Rattle.proposer.specs.VolatileStates.{VolatileState}
 use Rattle.site.specs.declared.answer.Answer.{Answer}
 use Rattle.site.specs.declared.fault.SiteFault.{SiteFault}
 use Rattle.site.specs.declared.fault.SiteFault.TheVariants as faults
-use Rattle.site.specs.Answered.{Keeps, Gives, IsAnswered}
+use Rattle.site.specs.Answered.{Keeps, IsAnswered}
 use Rattle.site.specs.Calls.{on_deposit}
 use Rattle.site.specs.Effects.{Effect}
 use Rattle.site.specs.Faults.{check_fault}
@@ -35,9 +34,7 @@ module _ {C : Type 0} (device : C → Device) (old : OpenSite C) (volatile : Vol
       → IsAnswered device old old volatile (on_deposit old.book.records volatile slot wanted)
       (Err (check_fault fault))
   unfolding on_deposit
-  check_refused slot wanted fault (inl is) stands =
-      subst (λ (w : Result BagId BagFault). IsAnswered device old old volatile
-      (on_deposit old.book.records volatile slot w) (Err (check_fault fault))) is (refused fault)
+  check_refused slot wanted fault (inl is) stands = rw (← is) (refused fault)
     where
       refused : (f : BagFault) → IsAnswered device old old volatile
           (on_deposit old.book.records volatile slot (Err f)) (Err (check_fault f))
@@ -45,21 +42,15 @@ module _ {C : Type 0} (device : C → Device) (old : OpenSite C) (volatile : Vol
           out_of_memory (on_deposit old.book.records volatile slot (Err checks.Memory)) stands
       refused f = record { keeps = refl; gives = (refl, stands) }
   check_refused slot wanted fault (inr is) stands =
-      subst (λ (f : BagFault). IsAnswered device old old volatile
-      (on_deposit old.book.records volatile slot wanted) (Err (check_fault f))) (sym (same is))
-      (out_of_memory (on_deposit old.book.records volatile slot wanted) stands)
-    where
-      same : ◌≡◌ {A = Result BagId BagFault} (Err fault) (Err checks.Memory)
-          → fault ≡ checks.Memory
-      same e = cc
+      let same : fault ≡ checks.Memory = cc in
+      rw same (out_of_memory (on_deposit old.book.records volatile slot wanted) stands)
 
 -- an answer of a site that needs no opening isn't that it does
 pub needs_none : {C : Type 0} (device : C → Device) (old new : OpenSite C)
     (volatile : VolatileState)
     (e : Effect) (result : Result Answer SiteFault)
     → IsAnswered device old new volatile e result → IsErrOf result faults.NeedsOpen → ⊥
-needs_none device old new volatile e result answered is =
-    subst (λ (r : Result Answer SiteFault). Gives old new volatile e r) is answered.gives
+needs_none device old new volatile e result answered is = rw is at answered.gives
 
 -- so a call that answers as the effect says refuses for that reason exactly where the site,
 -- as a clause sees it, needs opening: never
@@ -71,14 +62,11 @@ pub never_needs : {C : Type 0} (device : C → Device) {inside now : OpenSite C}
     → IsErrOf result faults.NeedsOpen ↔ (now.book.needs_opening ≡ true)
 never_needs {C} device {inside} {now} seen some opened new effect result answered = (
   λ e. absurd (needs_none device now new here.0 (effect here.0) result (answered here.0 here.1) e),
-  λ e. absurd (differ (sym e ∙ still)),
+  λ e. absurd (cc (e, still)),
 )
   where
     here : (volatile : VolatileState) × Represents now volatile
-    here = subst (λ (s : OpenSite C). (volatile : VolatileState) × Represents s volatile) seen some
+    here = rw (← seen) some
 
     still : now.book.needs_opening ≡ false
-    still = subst (λ (s : OpenSite C). s.book.needs_opening ≡ false) seen opened
-
-    differ : true ≡ false → ⊥
-    differ e = cc
+    still = rw (← seen) opened

@@ -1,21 +1,12 @@
 -- An opening that ends for want of the tables' memory.
-use Rattle.std.proofs.Common.{◌≡◌, inr, List, Option, Some, None, Result, Ok, Err, refl}
-use Rattle.std.proofs.Common.{ap}
-use Rattle.std.specs.Prelude.{IsErrAnd}
+use Rattle.std.proofs.Common.{◌≡◌, inr, List, Option, Some, None, Ok, Err, refl}
 use Rattle.cell_device.specs.Devices.{Device}
 use Rattle.cell_device.specs.Images.{Image, IfKnown}
 use Rattle.records.specs.declared.owner.Owner.{Owner}
 use Rattle.records.specs.declared.record.Record.{Record}
-use Rattle.book.specs.declared.fault.OpenFault.{OpenFault}
 use Rattle.book.specs.declared.fault.OpenFault.TheVariants as faults
-use Rattle.book.specs.Opened.{LeavesAlike}
+use Rattle.book.specs.Opened.{LeavesAlike, Opens}
 use Rattle.book.specs.OpenBooks.{OpenBook, ReadSays, RecoversTo}
-use Rattle.book.specs.Opened.{Opens}
-
--- the result of a `?`
-pub error_of : {T E : Type 0} (r : Result T E) (e : E) → IsErrAnd r (λ x. x ≡ e) → r ≡ Err e
-error_of (Ok x) e is = absurd is
-error_of (Err x) e is = ap (λ y. Err y) is
 
 -- what is so of each is so where one is known
 pub if_known : {X : Type 0} {P : X → Type 0} (o : Option X) → ((x : X) → P x) → IfKnown o P
@@ -45,17 +36,9 @@ closed_again device owner cell after book same o = record {
       o.records o.recovers);
   cause = record {
     later = rw same o.cause.later;
-    failed = λ e. absurd (memory_is_other e);
-    same = λ no. rw same (o.cause.same ok_is_none);
+    failed = λ e. absurd (cc e);
+    same = λ no. rw same (o.cause.same (λ e. absurd (cc e)));
   };
-  clear = λ is. (rw same (o.clear is).0, memory_is_other);
+  clear = λ is. (rw same (o.clear is).0, λ e. absurd (cc e));
   whose = tt;
 }
-  where
-    memory_is_other : ◌≡◌ {A = Result (List Record) OpenFault} (Err faults.Memory)
-        (Err faults.Device) → ⊥
-    memory_is_other e = cc
-
-    ok_is_none : ◌≡◌ {A = Result (List Record) OpenFault} (Ok book.records) (Err faults.Device)
-        → ⊥
-    ok_is_none e = cc

@@ -1,21 +1,21 @@
 -- What a site reports is the bag of the slot's first Known record, which stays.
-use Rattle.std.proofs.Common.{◌≡◌, ◌⊎◌, inl, inr, ℕ, Bool, true, false, cond, List, [], ◌∷◌, ◌++◌}
-use Rattle.std.proofs.Common.{Option, Some, None, is_some, ◌||◌}
-use Rattle.std.proofs.Common.{Result, Ok, Err, refl, sym, ap, subst, ◌∙◌}
+use Rattle.std.proofs.Common.{◌≡◌, ◌⊎◌, inl, inr, ℕ, Bool, true, List, [], ◌∷◌, ◌++◌}
+use Rattle.std.proofs.Common.{Option, Some, None, is_some, ◌||◌, Result, Ok, Err, refl, sym}
 use Rattle.std.specs.Option.{option_to_list}
 use Rattle.std.specs.Prelude.{IfOk}
 use Rattle.std.proofs.lemmas.List.{append-nil}
+use Rattle.std.proofs.lemmas.Bool.{cond_both}
 use Rattle.fed_types.specs.declared.bag_id.BagId.{BagId}
 use Rattle.fed_types.specs.Lists.{Has}
 use Rattle.fed_types.specs.Laws.Lists.{has_cases, has_none, has_one}
 use Rattle.fed_types.specs.Laws.Slots.{same_slot_decides}
 use Rattle.fed_types.specs.Ballots.{BallotNumber}
-use Rattle.fed_types.specs.Quorums.{QuorumSystem}
+use Rattle.fed_types.specs.Quorums.{QuorumSystem, quorums_of}
 use Rattle.fed_types.specs.Slots.{SlotName}
 use Rattle.bag_check.specs.declared.fault.BagFault.{BagFault}
 use Rattle.records.specs.declared.record.Record.{Record}
 use Rattle.records.specs.declared.entry.Entry.TheVariants as entry
-use Rattle.records.specs.SlotStates.{known_of, deposit_of, known_in, said_in, if_some, with_one}
+use Rattle.records.specs.SlotStates.{known_of, deposit_of, known_in, said_in, with_one}
 use Rattle.records.specs.SlotStates.{earlier, vote_of}
 use Rattle.records.proofs.SlotStates.{known-push}
 use Rattle.dgram.specs.declared.body.Body.{Body}
@@ -26,12 +26,9 @@ use Rattle.proposer.specs.Proposals.{ready, next_ballot}
 use Rattle.proposer.specs.VolatileStates.{VolatileState, hears}
 use Rattle.learner.specs.LearnedBags.{unless_known, chosen_by, with_vote}
 use Rattle.cell_device.specs.Devices.{Device}
-use Rattle.book.specs.OpenBooks.{OpenBook}
-use Rattle.fed_types.specs.Quorums.{quorums_of}
 use Rattle.site.specs.declared.answer.Answer.{Answer}
 use Rattle.site.specs.declared.answer.Line.{Line}
 use Rattle.site.specs.declared.fault.SiteFault.{SiteFault}
-use Rattle.site.specs.declared.fault.SiteFault.TheVariants as faults
 use Rattle.site.specs.Answered.{IsAnswered, Keeps, SaysWhatIsKnown}
 use Rattle.site.specs.Sites.{OpenSite, effect}
 use Rattle.site.specs.Arrivals.{on_arrival, on_body, learning, proposing, telling, is_member}
@@ -40,20 +37,17 @@ use Rattle.site.specs.Calls.{on_deposit, on_propose, on_recover, on_ask, begins_
 use Rattle.site.specs.Calls.{registering, deposit_fault, other_than, begins_ballot_if, reply_by}
 use Rattle.site.specs.Calls.{reply_of}
 use Rattle.site.specs.declared.answer.Line.TheVariants as site_lines
-use Rattle.site.specs.Effects.{Effect, only_says}
-use Rattle.site.specs.Reported.{Answered, Kept, Lost, Act, Called, Queried, Report}
-use Rattle.site.specs.Reported.{line_report, reply_report, records_after, report_of, reports_of}
-use Rattle.site.specs.Reported.{Agree}
+use Rattle.site.specs.Effects.{Effect}
+use Rattle.site.specs.Reported.{Answered, Kept, Lost, Act, Called, Queried, Report, line_report}
+use Rattle.site.specs.Reported.{reply_report, records_after, report_of, reports_of, Agree}
 
 -- a known bag stays, whatever is recorded
 pub known_stays : (slot : SlotName) (bag : BagId) (records : List Record) (new : Option Record)
     → known_of slot records ≡ Some bag
     → known_of slot (records ++ option_to_list new) ≡ Some bag
-known_stays slot bag records None e =
-    subst (λ (rs : List Record). known_of slot rs ≡ Some bag) (sym (append-nil records)) e
+known_stays slot bag records None e = rw append-nil e
 known_stays slot bag records (Some r) e =
-    known-push slot records r ∙ ap (λ k. with_one earlier k (said_in known_in slot r)) e
-    ∙ stays (said_in known_in slot r)
+    rw (known-push slot records r, e) (stays (said_in known_in slot r))
   where
     stays : (o : Option BagId) → with_one earlier (Some bag) o ≡ Some bag
     stays None = refl
@@ -64,66 +58,48 @@ pub known_noted : (slot : SlotName) (bag : BagId) (records : List Record)
     → known_of slot records ≡ None
     → known_of slot (records ++ record { slot = slot; body = entry.Known bag } ∷ []) ≡ Some bag
 known_noted slot bag records none =
-    known-push slot records (record { slot = slot; body = entry.Known bag })
-    ∙ ap (λ k. with_one earlier k
-    (said_in known_in slot (record { slot = slot; body = entry.Known bag }))) none
-    ∙ ap (λ (t : Bool). with_one earlier None
-    (if_some known_in (cond t (Some (entry.Known bag)) None)))
-    ((same_slot_decides slot slot).1 refl)
+    rw (
+      known-push slot records (record { slot = slot; body = entry.Known bag }),
+      none,
+      (same_slot_decides slot slot).1 refl,
+    )
 
 -- what an effect reports is known once its record is kept
 abbrev IsKnown : List Record → Effect → Type 0
 IsKnown records e = (r : Report) → line_report e.says ≡ Some r
     → known_of r.slot (records ++ option_to_list e.commits) ≡ Some r.bag
 
--- an effect that reports nothing
-says_nothing : (records : List Record) (e : Effect) → line_report e.says ≡ None → IsKnown records e
-says_nothing records e none r some = absurd (differ (sym none ∙ some))
-  where
-    differ : {r : Report} → None ≡ Some r → ⊥
-    differ e = cc
-
 module _ (q : QuorumSystem) (site : ℕ) (records : List Record) (volatile : VolatileState) where
   learned : (slot : SlotName) (known bag : Option BagId) → known_of slot records ≡ known
       → IsKnown records (learning slot (unless_known known bag) volatile)
-  learned slot (Some k) bag e = says_nothing records (learning slot None volatile) refl
-  learned slot None None e = says_nothing records (learning slot None volatile) refl
-  learned slot None (Some bag) e = λ r is.
-      subst (λ (x : Report). known_of x.slot
-      (records ++ record { slot = slot; body = entry.Known bag } ∷ [])
-      ≡ Some x.bag) (same r is) (known_noted slot bag records e)
-    where
-      same : (r : Report) → Some (record { slot = slot; bag = bag }) ≡ Some r
-          → record { slot = slot; bag = bag } ≡ r
-      same r e = cc
+  learned slot None (Some bag) e r is =
+      let same : record { slot = slot; bag = bag } ≡ r = cc in
+      rw (← same) (known_noted slot bag records e)
+  learned slot known bag e r is = absurd (cc is)
 
   registered : (slot : SlotName) (own : Option BagId) (bag : BagId) (fault : Option SiteFault)
       → IsKnown records (registering slot own bag fault volatile)
-  registered slot own bag (Some fault) =
-      says_nothing records (registering slot own bag (Some fault) volatile) refl
-  registered slot own bag None = says_nothing records (registering slot own bag None volatile) refl
+  registered slot own bag (Some fault) r is = absurd (cc is)
+  registered slot own bag None r is = absurd (cc is)
 
   deposited : (slot : SlotName) (checked : Result BagId BagFault)
       → IsKnown records (on_deposit records volatile slot checked)
   unfolding on_deposit
-  deposited slot (Err fault) =
-      says_nothing records (on_deposit records volatile slot (Err fault)) refl
-  deposited slot (Ok bag) = registered slot (deposit_of slot records) bag
+  deposited slot (Err fault) r is = absurd (cc is)
+  deposited slot (Ok bag) r is =
+      registered slot (deposit_of slot records) bag
       (deposit_fault (other_than bag (deposit_of slot records))
-      (other_than bag (known_of slot records)))
+      (other_than bag (known_of slot records))) r is
 
   begun : (slot : SlotName) (next : Option BallotNumber)
       → IsKnown records (begins_next q slot next volatile)
-  begun slot None = says_nothing records (begins_next q slot None volatile) refl
-  begun slot (Some ballot) = says_nothing records (begins_next q slot (Some ballot) volatile) refl
+  begun slot None r is = absurd (cc is)
+  begun slot (Some ballot) r is = absurd (cc is)
 
   started : (slot : SlotName) (known own : Option BagId) (next : Option BallotNumber)
       → IsKnown records (begins_ballot_if q slot known own next volatile)
-  started slot (Some known) own next =
-      says_nothing records (begins_ballot_if q slot (Some known) own next volatile) refl
-  started slot None None next =
-      says_nothing records (begins_ballot_if q slot None None next volatile) refl
-  started slot None (Some own) next = begun slot next
+  started slot None (Some own) next r is = begun slot next r is
+  started slot known own next r is = absurd (cc is)
 
   proposed : (slot : SlotName) → IsKnown records (on_propose q site records volatile slot)
   unfolding on_propose
@@ -132,11 +108,8 @@ module _ (q : QuorumSystem) (site : ℕ) (records : List Record) (volatile : Vol
 
   restarted : (slot : SlotName) (known : Option BagId) (has : Bool) (next : Option BallotNumber)
       → IsKnown records (recovers_if q slot known has next volatile)
-  restarted slot (Some known) has next =
-      says_nothing records (recovers_if q slot (Some known) has next volatile) refl
-  restarted slot None false next =
-      says_nothing records (recovers_if q slot None false next volatile) refl
-  restarted slot None true next = begun slot next
+  restarted slot None true next r is = begun slot next r is
+  restarted slot known has next r is = absurd (cc is)
 
   recovered : (slot : SlotName) → IsKnown records (on_recover q site records volatile slot)
   unfolding on_recover
@@ -146,64 +119,43 @@ module _ (q : QuorumSystem) (site : ℕ) (records : List Record) (volatile : Vol
 
   asked : (slot : SlotName) (member : ℕ) → IsKnown records (on_ask site volatile slot member)
   unfolding on_ask
-  asked slot member = says_nothing records (on_ask site volatile slot member) refl
+  asked slot member r is = absurd (cc is)
 
   proposal : (slot : SlotName) (ballot : BallotNumber) (bag : Option BagId)
       → IsKnown records (proposing q slot ballot bag volatile)
-  proposal slot ballot None = says_nothing records (proposing q slot ballot None volatile) refl
-  proposal slot ballot (Some bag) =
-      says_nothing records (proposing q slot ballot (Some bag) volatile) refl
+  proposal slot ballot None r is = absurd (cc is)
+  proposal slot ballot (Some bag) r is = absurd (cc is)
 
   told : (slot : SlotName) (asker : ℕ) (bag : Option BagId)
       → IsKnown records (telling site slot asker bag volatile)
-  told slot asker None = says_nothing records (telling site slot asker None volatile) refl
-  told slot asker (Some bag) =
-      says_nothing records (telling site slot asker (Some bag) volatile) refl
+  told slot asker None r is = absurd (cc is)
+  told slot asker (Some bag) r is = absurd (cc is)
 
   -- `volatile` has heard the message, and `old` is the one before it
   heard : (old : VolatileState) (slot : SlotName) (body : Body)
       → IsKnown records (on_body q site records old volatile slot body)
   unfolding on_body
-  heard old slot (bodies.Prepare ballot) =
-      says_nothing records (on_body q site records old volatile slot (bodies.Prepare ballot)) refl
-  heard old slot (bodies.Accept vote) =
-      says_nothing records (on_body q site records old volatile slot (bodies.Accept vote)) refl
-  heard old slot (bodies.Promise from ballot prior) = proposal slot ballot
+  heard old slot (bodies.Promise from ballot prior) r is =
+      proposal slot ballot
       (ready q (deposit_of slot records) slot (old.current slot) old.heard ballot
-      (record { site = from; prior = prior }))
-  heard old slot (bodies.Accepted from vote) = learned slot (known_of slot records)
-      (chosen_by q slot (with_vote old.heard slot from vote) vote) refl
-  heard old slot (bodies.Known from bag) = learned slot (known_of slot records) (Some bag) refl
-  heard old slot (bodies.Refused from asked standing) =
-      says_nothing records (on_body q site records old volatile slot
-      (bodies.Refused from asked standing)) refl
-  heard old slot (bodies.Ask from) = told slot from (known_of slot records)
-  heard old slot (bodies.Deposit path) =
-      says_nothing records (on_body q site records old volatile slot (bodies.Deposit path)) refl
-  heard old slot bodies.Query =
-      says_nothing records (on_body q site records old volatile slot bodies.Query) refl
-  heard old slot bodies.Recover =
-      says_nothing records (on_body q site records old volatile slot bodies.Recover) refl
-  heard old slot (bodies.DepositReply from answer) =
-      says_nothing records (on_body q site records old volatile slot
-      (bodies.DepositReply from answer)) refl
-  heard old slot (bodies.QueryReply from answer) =
-      says_nothing records (on_body q site records old volatile slot
-      (bodies.QueryReply from answer))
-      refl
+      (record { site = from; prior = prior })) r is
+  heard old slot (bodies.Accepted from vote) r is =
+      learned slot (known_of slot records)
+      (chosen_by q slot (with_vote old.heard slot from vote) vote) refl r is
+  heard old slot (bodies.Known from bag) r is =
+      learned slot (known_of slot records) (Some bag) refl r is
+  heard old slot (bodies.Ask from) r is = told slot from (known_of slot records) r is
+  heard old slot body r is = absurd (cc is)
 
 module _ (q : QuorumSystem) (site : ℕ) where
   arrived : (records : List Record) (volatile : VolatileState) (message : Option Message)
       → IsKnown records (on_arrival q site records volatile message)
   unfolding on_arrival
-  arrived records volatile None = says_nothing records (only_says site_lines.Dropped volatile) refl
-  arrived records volatile (Some m) = go (is_member q (body_from m.body))
-    where
-      go : (t : Bool) → IsKnown records
-          (cond t (on_body q site records volatile (hears volatile m) m.slot m.body)
-          (only_says site_lines.Dropped volatile))
-      go true = heard q site records (hears volatile m) volatile m.slot m.body
-      go false = says_nothing records (only_says site_lines.Dropped volatile) refl
+  arrived records volatile None = λ r is. absurd (cc is)
+  arrived records volatile (Some m) =
+      cond_both (is_member q (body_from m.body)) _ _ (IsKnown records)
+      (λ e. heard q site records (hears volatile m) volatile m.slot m.body)
+      (λ e r is. absurd (cc is))
 
   pub answered : (records : List Record) (volatile : VolatileState) (input : Input)
       → IsKnown records (effect_of q site records volatile input)
@@ -218,19 +170,9 @@ module _ (q : QuorumSystem) (site : ℕ) where
       → known_of slot records ≡ known → (r : Report)
       → reply_report slot (reply_by known own) ≡ Some r → known_of r.slot records ≡ Some r.bag
   queried slot records (Some bag) own e r is =
-      subst (λ (x : Report). known_of x.slot records ≡ Some x.bag) (same is) e
-    where
-      same : Some (record { slot = slot; bag = bag }) ≡ Some r
-          → record { slot = slot; bag = bag } ≡ r
-      same e = cc
-  queried slot records None (Some own) e r is = absurd (differ is)
-    where
-      differ : None ≡ Some r → ⊥
-      differ e = cc
-  queried slot records None None e r is = absurd (differ is)
-    where
-      differ : None ≡ Some r → ⊥
-      differ e = cc
+      let same : record { slot = slot; bag = bag } ≡ r = cc in rw (← same) e
+  queried slot records None (Some own) e r is = absurd (cc is)
+  queried slot records None None e r is = absurd (cc is)
 
   -- what an act reports is known after it
   pub reported : (records : List Record) (act : Act) (r : Report)
@@ -238,14 +180,7 @@ module _ (q : QuorumSystem) (site : ℕ) where
       → known_of r.slot (records_after q site records act) ≡ Some r.bag
   unfolding report_of records_after reply_of
   reported records (Called volatile input Answered) r is = answered records volatile input r is
-  reported records (Called volatile input Kept) r is = absurd (differ is)
-    where
-      differ : None ≡ Some r → ⊥
-      differ e = cc
-  reported records (Called volatile input Lost) r is = absurd (differ is)
-    where
-      differ : None ≡ Some r → ⊥
-      differ e = cc
+  reported records (Called volatile input _) r is = absurd (cc is)
   reported records (Queried slot) r is =
       queried slot records (known_of slot records) (deposit_of slot records) refl r is
 
@@ -268,21 +203,9 @@ module _ (q : QuorumSystem) (site : ℕ) where
   unfolding reports_of
   names_known slot bag [] records e r has is = absurd (has_none has)
   names_known slot bag (act ∷ acts) records e r has is =
-      go (λ h. names_known slot bag acts (records_after q site records act)
-      (stays_after slot bag records act e) r h is) (report_of q site records act) refl
-      (has_cases (option_to_list (report_of q site records act))
-      (reports_of q site (records_after q site records act) acts) has)
+      go (λ h. names_known slot bag acts _ (stays_after slot bag records act e) r h is)
+      (report_of q site records act) refl (has_cases _ _ has)
     where
-      after : known_of slot (records_after q site records act) ≡ Some bag
-      after = stays_after slot bag records act e
-
-      some_same : (a b : BagId) → Some a ≡ Some b → a ≡ b
-      some_same a b e = cc
-
-      named : known_of r.slot (records_after q site records act) ≡ Some r.bag → r.bag ≡ bag
-      named k = some_same r.bag bag (sym k
-          ∙ ap (λ (s : SlotName). known_of s (records_after q site records act)) is ∙ after)
-
       go : (Has r (reports_of q site (records_after q site records act) acts) → r.bag ≡ bag)
           → (o : Option Report) → report_of q site records act ≡ o
           → Has r (option_to_list o)
@@ -290,7 +213,10 @@ module _ (q : QuorumSystem) (site : ℕ) where
           → r.bag ≡ bag
       go later None f (inl h) = absurd (has_none h)
       go later (Some x) f (inl h) =
-          named (reported records act r (f ∙ ap (λ (y : Report). Some y) (has_one h)))
+          cc (
+            reported records act r (cc (f, has_one h)),
+            stays_after slot bag records act e,
+          )
       go later o f (inr h) = later h
 
   pub reports_agree : (acts : List Act) (records : List Record)
@@ -299,15 +225,11 @@ module _ (q : QuorumSystem) (site : ℕ) where
   reports_agree [] records r s hr hs e = absurd (has_none hr)
   reports_agree (act ∷ acts) records r s hr hs e =
       go (λ a b. reports_agree acts (records_after q site records act) r s a b e)
-      (report_of q site records act) refl
-      (has_cases (option_to_list (report_of q site records act))
-      (reports_of q site (records_after q site records act) acts) hr)
-      (has_cases (option_to_list (report_of q site records act))
-      (reports_of q site (records_after q site records act) acts) hs)
+      (report_of q site records act) refl (has_cases _ _ hr) (has_cases _ _ hs)
     where
       known : (x y : Report) → report_of q site records act ≡ Some x → x ≡ y
           → known_of y.slot (records_after q site records act) ≡ Some y.bag
-      known x y is same = reported records act y (is ∙ ap (λ (z : Report). Some z) same)
+      known x y is same = reported records act y (cc)
 
       go : (Has r (reports_of q site (records_after q site records act) acts)
           → Has s (reports_of q site (records_after q site records act) acts) → r.bag ≡ s.bag)
@@ -319,8 +241,7 @@ module _ (q : QuorumSystem) (site : ℕ) where
       go later None is (inl a) b = absurd (has_none a)
       go later None is (inr a) (inl b) = absurd (has_none b)
       go later None is (inr a) (inr b) = later a b
-      go later (Some x) is (inl a) (inl b) =
-          ap (λ (z : Report). z.bag) (sym (has_one a) ∙ has_one b)
+      go later (Some x) is (inl a) (inl b) = cc (has_one a, has_one b)
       go later (Some x) is (inl a) (inr b) =
           sym (names_known r.slot r.bag acts (records_after q site records act)
           (known x r is (has_one a)) s b (sym e))
@@ -346,28 +267,22 @@ module _ {C : Type 0} (device : C → Device) (old new : OpenSite C) (volatile :
     (answer : IsAnswered device old new volatile (effect old volatile input) (Ok a)) where
   grown : (commits : Option Record) → Keeps device commits (Ok a) old.book new.book
       → new.book.records ≡ old.book.records ++ option_to_list commits
-  grown None keeps = ap (λ (v : OpenBook C). v.records) keeps ∙ sym (append-nil old.book.records)
-  grown (Some r) (inl (memory, same)) = absurd (differ memory)
-    where
-      differ : ◌≡◌ {A = Result Answer SiteFault} (Ok a) (Err faults.Memory) → ⊥
-      differ e = cc
+  grown None keeps = cc (keeps, append-nil old.book.records)
+  grown (Some r) (inl (memory, same)) = absurd (cc memory)
   grown (Some r) (inr commits) = commits.committed.0
 
   line_is_known : (slot : SlotName) (bag : BagId) → a.line ≡ Some (site_lines.Known slot bag)
       → known_of slot new.book.records ≡ Some bag
   line_is_known slot bag line = rw (grown (effect old volatile input).commits answer.keeps)
       (answered (quorums_of old.book.owner.members) old.book.owner.site old.book.records volatile
-      input (record { slot = slot; bag = bag })
-      (ap line_report (answer.gives.0 ∙ ap (λ (l : Option Line). Ok l) line)))
+      input (record { slot = slot; bag = bag }) (rw (answer.gives.0, line)))
 
   pub says_what_is_known : SaysWhatIsKnown a.line new.book.records
   says_what_is_known = go a.line refl
     where
       go : (l : Option Line) → a.line ≡ l → SaysWhatIsKnown l new.book.records
       go (Some (site_lines.Known slot bag)) is = line_is_known slot bag is
-      go (Some (site_lines.Registered bag)) is = tt
-      go (Some site_lines.Dropped) is = tt
-      go None is = tt
+      go _ is = tt
 
 -- and so it is of each result
 pub reported_of : {C : Type 0} (device : C → Device) (old new : OpenSite C)

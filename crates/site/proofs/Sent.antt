@@ -1,6 +1,6 @@
 -- A message as datagrams, site by site.
 use Rattle.std.specs.Prelude.{◌≡◌, ℕ, List, [], ◌∷◌, ◌++◌, map}
-use Rattle.std.proofs.Common.{sym, ap, ◌∙◌, append_assoc, append-nil}
+use Rattle.std.proofs.Common.{ap, ◌∙◌, append_assoc, append-nil}
 use Rattle.std.proofs.lemmas.List.{map-append}
 use Rattle.dgram.specs.declared.message.Message.{Message}
 use Rattle.dgram.specs.Encoding.{datagram_of}
@@ -20,16 +20,10 @@ module _ (federation : ℕ) (m : Message) (made : List Outgoing) (left : List �
       → map handed_out (made ++ one ∷ []) ++ sent federation m rest ≡ all
   unfolding to_each
   next_sent to rest one next is =
-      ap (λ (l : List (ℕ × List ℕ)). l ++ sent federation m rest)
-      (map-append handed_out made (one ∷ []))
-      ∙ (append_assoc (map handed_out made) (handed_out one ∷ []) (sent federation m rest)
-      ∙ (ap (λ (d : ℕ × List ℕ). map handed_out made ++ d ∷ sent federation m rest) is
-      ∙ (ap (λ (sites : List ℕ). map handed_out made ++ sent federation m sites) (sym next)
-      ∙ before)))
+      rw (map-append handed_out made (one ∷ []), append_assoc)
+      (ap (λ (d : ℕ × List ℕ). map handed_out made ++ d ∷ sent federation m rest) is
+      ∙ rw next at before)
 
   pub all_sent : left ≡ [] → map handed_out made ≡ all
   unfolding to_each
-  all_sent none =
-      sym (append-nil (map handed_out made))
-      ∙ (ap (λ (sites : List ℕ). map handed_out made ++ sent federation m sites) (sym none)
-      ∙ before)
+  all_sent none = rw (none, append-nil) at before

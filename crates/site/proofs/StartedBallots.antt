@@ -1,6 +1,5 @@
 -- A ballot is started, or why it isn't.
-use Rattle.std.proofs.Common.{◌≡◌, inl, Bool, true, false, cond, map, Option, Some}
-use Rattle.std.proofs.Common.{None, Result, Ok, Err, refl, sym, ap, subst, ◌∙◌}
+use Rattle.std.proofs.Common.{◌≡◌, inl, map, Option, Some, None, Result, Ok, Err, refl}
 use Rattle.std.specs.Prelude.{IsSome}
 use Rattle.std.proofs.lemmas.Bool.Decides.{Decides-eqb}
 use Rattle.fed_types.specs.Ballots.{BallotNumber}
@@ -12,19 +11,17 @@ use Rattle.records.specs.declared.owner.Owner.{Owner}
 use Rattle.records.specs.declared.record.Record.{Record}
 use Rattle.proposer.specs.Proposals.{next_ballot}
 use Rattle.proposer.specs.VolatileStates.{VolatileState}
-use Rattle.proposer.specs.UnderWay.{UnderWay, begins, current_by, current_if, of_round}
+use Rattle.proposer.specs.UnderWay.{UnderWay, begins, current_by}
 use Rattle.proposer.proofs.Stands.{at_here}
 use Rattle.site.specs.declared.answer.Answer.{Answer}
 use Rattle.site.specs.declared.fault.SiteFault.{SiteFault}
 use Rattle.site.specs.declared.fault.SiteFault.TheVariants as faults
-use Rattle.site.specs.declared.answer.Line.{Line}
 use Rattle.site.specs.Answered.{Keeps, IsAnswered, IsRefused}
 use Rattle.site.specs.Calls.{begins_next}
 use Rattle.site.specs.Datagrams.{handed_out}
-use Rattle.site.specs.Effects.{Effect}
 use Rattle.site.specs.Sites.{OpenSite, Represents, IsInOrder}
 use Rattle.site.specs.inner.Begun.{Begins, BeginsBallot, next_effect}
-use Rattle.site.specs.inner.Concluded.{Stands, noted_under, Concludes}
+use Rattle.site.specs.inner.Concluded.{Concludes}
 use Rattle.site.proofs.Conclusions.{concluded}
 
 -- a ballot that was begun is started by the record of its round
@@ -32,26 +29,18 @@ current_is : (slot : SlotName) (ballot : BallotNumber) (under : UnderWay)
     → current_by ((begins under slot ballot).begun slot) (entry.Round ballot.round)
     ≡ Some ballot
 current_is slot ballot under =
-    ap (λ (b : Option BallotNumber). of_round b ballot.round)
-    (at_here slot (Some ballot) under.begun)
-    ∙ ap (λ (t : Bool). cond t (Some ballot) None) ((Decides-eqb ballot.round ballot.round).1 refl)
+    rw (at_here slot (Some ballot) under.begun, (Decides-eqb ballot.round ballot.round).1 refl)
 
 -- what was begun is one thing
 pub refused_as : (begun : Result (Record × Answer) SiteFault) (result : Result Answer SiteFault)
     (is fault : SiteFault) → begun ≡ Err is → result ≡ Err is → begun ≡ Err fault
     → result ≡ Err fault
-refused_as begun result is fault e r f = r ∙ ap (λ (x : SiteFault). Err x) (same (sym e ∙ f))
-  where
-    same : ◌≡◌ {A = Result (Record × Answer) SiteFault} (Err is) (Err fault) → is ≡ fault
-    same e = cc
+refused_as begun result is fault e r f = cc
 
 pub not_refused : (begun : Result (Record × Answer) SiteFault) (result : Result Answer SiteFault)
     (x : Record × Answer) (fault : SiteFault) → begun ≡ Ok x → begun ≡ Err fault
     → result ≡ Err fault
-not_refused begun result x fault e f = absurd (differ (sym e ∙ f))
-  where
-    differ : ◌≡◌ {A = Result (Record × Answer) SiteFault} (Ok x) (Err fault) → ⊥
-    differ e = cc
+not_refused begun result x fault e f = cc
 
 module _ {C : Type 0} (device : C → Device) (old mid : OpenSite C) (slot : SlotName)
     (book : mid.book ≡ old.book) (begun : Result (Record × Answer) SiteFault) (owner : Owner)
@@ -59,7 +48,7 @@ module _ {C : Type 0} (device : C → Device) (old mid : OpenSite C) (slot : Slo
     (begins_so : BeginsBallot owner old.tables mid.tables slot begun) (order : IsInOrder old)
   where
     b : BeginsBallot old.book.owner old.tables mid.tables slot begun
-    b = subst (λ (o : Owner). BeginsBallot o old.tables mid.tables slot begun) whose begins_so
+    b = rw whose at begins_so
 
     -- the tables are in order with the old book's records, whatever comes
     pub mid_order : IsInOrder mid
@@ -80,30 +69,14 @@ module _ {C : Type 0} (device : C → Device) (old mid : OpenSite C) (slot : Slo
             (begins order.volatile.1.0 slot ballot, stands)
         some (Err faults.RoundsSpent) (none, stands) = (order.volatile.1.0, stands)
         some (Err faults.Memory) (left, after, stands) = (after, stands)
-        some (Err (faults.InvalidBag f)) x = absurd x
-        some (Err (faults.OtherDeposit other)) x = absurd x
-        some (Err (faults.OtherKnown other)) x = absurd x
-        some (Err faults.Device) x = absurd x
-        some (Err faults.NeedsOpen) x = absurd x
-        some (Err faults.NoDeposit) x = absurd x
-        some (Err faults.AlreadyKnown) x = absurd x
-        some (Err faults.NothingToRecover) x = absurd x
+        some (Err fault) x = absurd x
 
     module _ (volatile : VolatileState) (stands : Represents old volatile) where
-      -- what it comes to, by the next ballot
-      begins_it : (next : Option BallotNumber)
-          → next_ballot old.book.owner.site slot old.book.records volatile.heard ≡ next
-          → begins_next (quorums_of old.book.owner.members) slot next volatile
-          ≡ next_effect old volatile slot
-      begins_it next is =
-          λ i. begins_next (quorums_of old.book.owner.members) slot (sym is i) volatile
-
       -- it wasn't begun, or memory ran out
       pub not_started : (fault : SiteFault) → begun ≡ Err fault
           → IsAnswered device old mid volatile (next_effect old volatile slot) (Err fault)
-      not_started fault is = go fault (subst (λ (r : Result (Record × Answer) SiteFault).
-          Begins old.book.owner mid.tables slot old.book.records volatile stands.0 r) is
-          (b.begun old.book.records volatile stands.0 order.of stands.1))
+      not_started fault is =
+          go fault (rw is at (b.begun old.book.records volatile stands.0 order.of stands.1))
         where
           keeps : (r : Option Record) → Keeps device r (Err faults.Memory) old.book mid.book
           keeps None = book
@@ -113,51 +86,29 @@ module _ {C : Type 0} (device : C → Device) (old mid : OpenSite C) (slot : Slo
               stands.0 (Err f)
               → IsAnswered device old mid volatile (next_effect old volatile slot) (Err f)
           go faults.RoundsSpent (none, s) =
-              subst (λ (e : Effect). IsAnswered device old mid volatile e (Err faults.RoundsSpent))
-              (begins_it None none)
-              (record { keeps = book; gives = (refl, rw book (stands.0, s)) })
+              rw none (record { keeps = book; gives = (refl, rw book (stands.0, s)) })
           go faults.Memory (left, after, s) = record {
             keeps = keeps (next_effect old volatile slot).commits;
             gives = rw book (after, s);
           }
-          go (faults.InvalidBag f) x = absurd x
-          go (faults.OtherDeposit other) x = absurd x
-          go (faults.OtherKnown other) x = absurd x
-          go faults.Device x = absurd x
-          go faults.NeedsOpen x = absurd x
-          go faults.NoDeposit x = absurd x
-          go faults.AlreadyKnown x = absurd x
-          go faults.NothingToRecover x = absurd x
+          go fault x = absurd x
 
       -- it was begun, and its record is committed
       pub started : (new : OpenSite C) (x : Record × Answer) (result : Result Answer SiteFault)
           → begun ≡ Ok x
           → Concludes device mid new (Some x.0) x.1.line (map handed_out x.1.sends.items) result
           → IsAnswered device old new volatile (next_effect old volatile slot) result
-      started new x result is c = go (subst (λ (r : Result (Record × Answer) SiteFault).
-          Begins old.book.owner mid.tables slot old.book.records volatile stands.0 r) is
-          (b.begun old.book.records volatile stands.0 order.of stands.1))
+      started new x result is c =
+          go (rw is at (b.begun old.book.records volatile stands.0 order.of stands.1))
         where
           go : Begins old.book.owner mid.tables slot old.book.records volatile stands.0 (Ok x)
               → IsAnswered device old new volatile (next_effect old volatile slot) result
           go (ballot, next, of_ballot, s) =
-              subst (λ (e : Effect). IsAnswered device old new volatile e result)
-              (begins_it (Some ballot) next)
-              (concluded device old mid new volatile (begins stands.0 slot ballot)
+              rw next (concluded device old mid new volatile (begins stands.0 slot ballot)
               (begins_next (quorums_of old.book.owner.members) slot (Some ballot) volatile) None
               (map handed_out x.1.sends.items) result
-              (subst (λ (r : Record). Concludes device mid new (Some r) None
-              (map handed_out x.1.sends.items) result) of_ballot.record_is
-              (rw (← of_ballot.line) c))
-              book (rw book s) refl of_ballot.sends
-              (λ after. (
-                noted_under (begins stands.0 slot ballot)
-                    (record { slot = slot; body = entry.Round ballot.round }),
-                subst (λ (o : Option BallotNumber). Stands new (current_if volatile slot o)
-                    (noted_under (begins stands.0 slot ballot)
-                    (record { slot = slot; body = entry.Round ballot.round })))
-                    (current_is slot ballot stands.0) after,
-              )))
+              (rw (of_ballot.record_is, of_ballot.line) at c) book (rw book s) refl of_ballot.sends
+              (λ after. (_, rw (current_is slot ballot stands.0) at after)))
 
       -- that no round is left is answered
       pub refused_or_started : (result : Result Answer SiteFault)
@@ -169,41 +120,18 @@ module _ {C : Type 0} (device : C → Device) (old mid : OpenSite C) (slot : Slo
           with_current : (ballot : BallotNumber)
               → next_ballot old.book.owner.site slot old.book.records volatile.heard ≡ Some ballot
               → IsRefused (next_effect old volatile slot) result
-          with_current ballot next = subst (λ (e : Effect). IsRefused e result)
-              (begins_it (Some ballot) next) (λ fault is. absurd (differ fault is))
-            where
-              differ : (fault : SiteFault)
-                  → ◌≡◌ {A = Result (Option Line) SiteFault} (Ok None) (Err fault) → ⊥
-              differ fault e = cc
+          with_current ballot next = rw next (λ fault is. absurd (cc is))
 
           left : (next : Option BallotNumber)
               → next_ballot old.book.owner.site slot old.book.records volatile.heard ≡ next
               → IsSome next → IsRefused (next_effect old volatile slot) result
-          left None is some = absurd (differ some)
-            where
-              differ : false ≡ true → ⊥
-              differ e = cc
+          left None is some = absurd (cc some)
           left (Some ballot) is some = with_current ballot is
 
           go : (r : Result (Record × Answer) SiteFault) → begun ≡ r
               → Begins old.book.owner mid.tables slot old.book.records volatile stands.0 r
               → IsRefused (next_effect old volatile slot) result
           go (Ok x) is (ballot, next, of_ballot, s) = with_current ballot next
-          go (Err faults.RoundsSpent) is (none, s) = subst (λ (e : Effect). IsRefused e result)
-              (begins_it None none)
-              (λ fault says. err faults.RoundsSpent is
-              ∙ ap (λ (f : SiteFault). Err f) (same fault says))
-            where
-              same : (fault : SiteFault)
-                  → ◌≡◌ {A = Result (Option Line) SiteFault} (Err faults.RoundsSpent) (Err fault)
-                  → faults.RoundsSpent ≡ fault
-              same fault e = cc
+          go (Err faults.RoundsSpent) is (none, s) = rw none (λ fault says. err fault (cc))
           go (Err faults.Memory) is (some, after, s) = left _ refl some
-          go (Err (faults.InvalidBag f)) is x = absurd x
-          go (Err (faults.OtherDeposit other)) is x = absurd x
-          go (Err (faults.OtherKnown other)) is x = absurd x
-          go (Err faults.Device) is x = absurd x
-          go (Err faults.NeedsOpen) is x = absurd x
-          go (Err faults.NoDeposit) is x = absurd x
-          go (Err faults.AlreadyKnown) is x = absurd x
-          go (Err faults.NothingToRecover) is x = absurd x
+          go (Err fault) is x = absurd x

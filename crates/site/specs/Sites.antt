@@ -3,8 +3,8 @@ use Rattle.fed_types.specs.Quorums.{quorums_of}
 use Rattle.book.specs.OpenBooks.{OpenBook}
 use Rattle.proposer.specs.VolatileStates.{VolatileState}
 use Rattle.proposer.specs.UnderWay.{UnderWay}
-use Rattle.site_tables.specs.Contents.{Contents, IsOf}
-use Rattle.site_tables.specs.Contents as tables
+use Rattle.site.specs.Contents.{Contents, IsOf}
+use Rattle.site.specs.Contents as tables
 use Rattle.site.specs.Effects.{Effect}
 use Rattle.site.specs.Calls.{Input, effect_of}
 

@@ -3,10 +3,10 @@ ghost use Rattle.site.specs.inner.Begun.{BeginsBallot};
 use crate::answer::Answer;
 use crate::datagrams::to_all;
 use crate::fault::SiteFault;
+use crate::tables::Tables;
 use dgram::{Body, Message};
 use fed_types::Slot;
 use records::{Entry, Owner, Record, Round};
-use site_tables::Tables;
 use std::alloc::Global;
 
 /// Begins the slot's next ballot: the record of its round, and the answer that asks all members to

@@ -2,10 +2,10 @@ ghost use Rattle.std.specs.Prelude.{◌≡◌, false};
 ghost use Rattle.site.specs.inner.Concluded.{IsCommitted};
 
 use crate::fault::SiteFault;
+use crate::tables::Tables;
 use book::Book;
 use cell_device::Cell;
 use records::Record;
-use site_tables::Tables;
 use std::alloc::Global;
 
 /// Makes room for a record, commits it, and takes note of it, which takes no memory.

@@ -24,10 +24,12 @@ mod batch;
 mod begun_ballot;
 mod commit;
 mod datagrams;
+mod deposits;
 mod fault;
 mod law;
 mod member_site;
 mod sealed_answer;
+mod tables;
 mod waiting_site;
 
 pub use answer::{Answer, Line, Outgoing, Reply};
@@ -36,4 +38,5 @@ pub use fault::SiteFault;
 pub use law::a_site_reports_one_bag;
 pub use member_site::Site;
 pub use sealed_answer::SealedAnswer;
+pub use tables::Tables;
 pub use waiting_site::Synced;

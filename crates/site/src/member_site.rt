@@ -2,7 +2,7 @@ ghost use Rattle.std.specs.Prelude.{◌≡◌, ◌↔◌, ◌||◌, true, false,
 ghost use Rattle.std.specs.Prelude.{is_some, Result, IfOk, IsErrOf};
 ghost use Rattle.records.specs.SlotStates.{deposit_of, vote_of};
 ghost use Rattle.std.specs.Option.{option_copied};
-ghost use Rattle.site_tables.specs.Contents.{deposits_of, slot_at};
+ghost use Rattle.site.specs.Contents.{deposits_of, slot_at};
 ghost use Rattle.bag_check.specs.Check.{check_of};
 ghost use Rattle.book.specs.OpenBooks.{HoldsText, RecoversTo};
 ghost use Rattle.cell_device.specs.Memory.{fuse_of, failures_of, fuse_after_set, IsSameMedium};
@@ -23,6 +23,7 @@ use crate::begun_ballot::begin_ballot;
 use crate::commit::commit_and_note;
 use crate::datagrams::{to_all, to_one};
 use crate::fault::SiteFault;
+use crate::tables::Tables;
 use bag_check::check;
 use bag_tree::Facts;
 use book::{Book, OpenFault};
@@ -30,7 +31,6 @@ use cell_device::{Cell, Fuse, MemoryCell};
 use dgram::{Body, Message};
 use fed_types::{BagId, Members, SiteNo, Slot};
 use records::{Entry, Owner, Record};
-use site_tables::Tables;
 use std::alloc::{AllocError, Global};
 use std::marker::Model;
 

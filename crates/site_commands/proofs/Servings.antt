@@ -38,7 +38,7 @@ use Rattle.site_commands.specs.declared.site_arguments.Turns.{Turns}
 use Rattle.site_commands.specs.declared.site_arguments.Turns.TheVariants as how
 use Rattle.site_commands.specs.Services.{GoesOn, ServesOn, ServedBy, IsConcluded, stopped}
 use Rattle.site_commands.specs.Services.{turns_in, most_calls, goes_on_from}
-use Rattle.site_commands.specs.Answers.{IsTold}
+use Rattle.site_client.specs.Answers.{IsTold}
 
 -- ---- a site that represents what it has heard does so after its turns
 
@@ -149,7 +149,8 @@ module _ {C : Type 0} (device : C → Device) (rule : Rule Waiting) (wanted : �
     after,
     subst (λ (o : Outside). ServesBatches device rule o after start end wanted batches (Ok tt))
         still
-        (subst (λ (b : Batching C). ServesBatches device rule mid after b end wanted batches (Ok tt))
+        (subst (λ (b : Batching C). ServesBatches device rule mid after b end wanted batches
+        (Ok tt))
         same serves),
     (refl, refl),
   )

@@ -9,7 +9,8 @@ use Rattle.records.specs.Numbers.{old_magic, magic, front_len}
 use Rattle.records.specs.Layout.{header_bytes}
 use Rattle.records.specs.declared.owner.Owner.{Owner}
 use Rattle.site_commands.specs.declared.first_start.Unprepared.{Unprepared}
-use Rattle.site_commands.specs.declared.first_start.Unprepared.TheVariants.{NoHeader, Device, Memory}
+use Rattle.site_commands.specs.declared.first_start.Unprepared.TheVariants.{NoHeader, Device}
+use Rattle.site_commands.specs.declared.first_start.Unprepared.TheVariants.{Memory}
 
 -- ---- a whole header, of any federation and site
 

@@ -25,7 +25,7 @@ use Rattle.udp_site.specs.Served.{Rule, Outside}
 use Rattle.udp_site.specs.BatchTurns.{Batch, Batching, ServesBatches, begins_with}
 use Rattle.site_commands.specs.declared.site_arguments.Turns.{Turns}
 use Rattle.site_commands.specs.declared.site_arguments.Turns.TheVariants as turns
-use Rattle.site_commands.specs.Answers.{IsTold}
+use Rattle.site_client.specs.Answers.{IsTold, not_a_member}
 
 -- ---- calls of `serve_batches`
 
@@ -71,9 +71,6 @@ module _ {C : Type 0} (device : C → Device) (rule : Rule Waiting) (wanted : �
       (length calls < most) × EndsBy fault before after start end calls
 
 -- ---- the last line
-
-abbrev pub not_a_member : Outcome
-not_a_member = record { status = 1; text = codes "not a member" ++ 10 ∷ [] }
 
 abbrev pub unopened : OpenFault → Outcome
 unopened fault = record {

@@ -1,7 +1,7 @@
 //! Options that have to name different files.
 
-use crate::stop::Stop;
 use code_words::push_name;
+use site_client::Stop;
 use std::alloc::AllocError;
 use system_files::is_same_file;
 

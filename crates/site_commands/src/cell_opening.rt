@@ -2,9 +2,9 @@
 
 use crate::first_start::{Unprepared, prepare_cell};
 use crate::site_arguments::SiteTask;
-use crate::stop::Stop;
 use cell_file::{Creation, DiskCell, Unopened, open_cell};
 use records::Owner;
+use site_client::Stop;
 use std::io::ErrorKind;
 use std::time::{Clock, Duration, Instant};
 use std::{fs, thread};

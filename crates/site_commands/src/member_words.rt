@@ -5,7 +5,7 @@ use fed_types::{GREATEST_WEIGHT, MOST_MEMBERS};
 use members_file::{ListedSite, Place};
 use std::alloc::{AllocError, Global};
 use std::net::SocketAddr;
-use words::parse_number;
+use tokens::parse_number;
 
 const FORM: &str =
     "a site is PORT, ADDRESS:PORT, or one of these and :WEIGHT, a weight being 1 to 255";

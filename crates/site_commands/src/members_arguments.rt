@@ -1,9 +1,9 @@
 //! The arguments of the command `members`.
 
 use crate::member_words::list_fault;
-use crate::site_arguments::{key_argument, words_argument};
 use clap::{Arg, ArgAction, ArgMatches, Command};
 use json_lines::json_argument;
+use site_client::{key_argument, words_argument};
 use std::alloc::{AllocError, Global};
 
 const ABOUT: &str = "Reads a members file or a key file, or writes one";

@@ -1,11 +1,10 @@
 //! Where a site is reached, and from where messages count.
 
-use crate::file_members::{address_of, addresses_of};
 use crate::site_arguments::SiteTask;
-use crate::stop::Stop;
 use addresses::Address;
 use fed_types::SiteNo;
 use members_file::MemberSites;
+use site_client::{Stop, address_of, addresses_of};
 use std::alloc::{AllocError, Global};
 use udp_site::Origins;
 

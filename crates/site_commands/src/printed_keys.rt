@@ -1,12 +1,11 @@
 //! The key files of the command `members`: the names of a file's keys, and a new file.
 
-use crate::key_files::keys_at;
 use crate::members_arguments::MembersTask;
 use crate::printed_members::{no_random_numbers, print_text};
-use crate::stop::Stop;
 use code_words::push_name;
 use key_file::{KEY_BYTES, new_key_text};
 use outcomes::ProgramFault;
+use site_client::{Stop, keys_at};
 use std::alloc::{AllocError, Global};
 use std::fs::{self, File, OpenOptions};
 use std::io::{self, ErrorKind, Write};

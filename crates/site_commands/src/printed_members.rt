@@ -1,14 +1,13 @@
 //! The command `members`.
 
-use crate::file_members::{expect_listed, members_at};
 use crate::member_words::sites_in;
 use crate::members_arguments::MembersTask;
 use crate::printed_keys::{make_keys, print_keys};
-use crate::stop::{Stop, write_stop};
 use code_words::{Asked, AskedSpeaker, SpokenLines};
 use json_lines::JsonLines;
 use members_file::{MemberSites, digest_of, new_list};
 use outcomes::{ProgramFault, write_output};
+use site_client::{Stop, expect_listed, members_at, write_stop};
 use std::alloc::{AllocError, Global};
 use std::io;
 use std::random::RandomSource;

@@ -1,9 +1,9 @@
 //! The arguments of the command `send`.
 
-use crate::site_arguments::{key_argument, members_argument, wait_argument, words_argument};
 use clap::{Arg, ArgMatches, Command, value_parser};
 use dgram::LONGEST_PATH;
 use fed_types::{GREATEST_SITE, LONGEST_OBJECT, SiteNo};
+use site_client::{key_argument, members_argument, to_argument, wait_argument, words_argument};
 use std::alloc::{AllocError, Global};
 
 const ABOUT: &str = "Deposits a bag at a site that serves, or asks it for one";
@@ -153,16 +153,6 @@ fn with_slot<'a>(alloc: Global, command: Command<'a>) -> Result<Command<'a>, All
     let version = version_argument(alloc)?;
     let path = path_argument(alloc)?;
     command.arg(object)?.arg(version)?.arg(path)
-}
-
-/// The option of the site that is asked.
-pub fn to_argument<'a>(alloc: Global) -> Arg<'a> {
-    Arg::new(alloc, "to")
-        .long("to")
-        .value_name("N")
-        .required(true)
-        .value_parser(value_parser!(u8).range(1..=i64::from(GREATEST_SITE)))
-        .help("The number of the site, 1 to 63")
 }
 
 fn until_argument<'a>(alloc: Global) -> Arg<'a> {

@@ -4,6 +4,7 @@ use addresses::Address;
 use clap::{Arg, ArgAction, ArgMatches, Command, value_parser};
 use code_words::{push_place_words, push_quoted};
 use fed_types::{GREATEST_SITE, SiteNo};
+use site_client::{key_argument, members_argument, wait_argument, words_argument};
 use std::alloc::{AllocError, Global};
 use udp_site::Waits;
 
@@ -135,9 +136,6 @@ const TOO_SHORT: &str = "--wait-most is less than --wait";
 /// What `--listen` takes.
 const NO_ADDRESS: &str =
     "--listen is an address and a port, as 192.0.2.1:5011 or [2001:db8::1]:5011";
-
-/// The most milliseconds that a turn waits while things move.
-const LONGEST_WAIT: i64 = 60000;
 
 /// The most milliseconds that it may wait while nothing does: a day.
 const MOST_WAIT: i64 = 86_400_000;
@@ -286,23 +284,6 @@ fn with_waits<'a>(alloc: Global, command: Command<'a>) -> Result<Command<'a>, Al
     command.arg(wait_argument(alloc))?.arg(most_argument(alloc))
 }
 
-/// The option of the members file.
-pub fn members_argument<'a>(alloc: Global) -> Arg<'a> {
-    Arg::new(alloc, "members")
-        .long("members")
-        .value_name("FILE")
-        .required(true)
-        .help("The members file: sites, where they are, weights")
-}
-
-/// The option of the key file.
-pub fn key_argument<'a>(alloc: Global) -> Arg<'a> {
-    Arg::new(alloc, "key")
-        .long("key")
-        .value_name("FILE")
-        .help("The keys by which each datagram has a tag")
-}
-
 fn listed_argument<'a>(alloc: Global) -> Arg<'a> {
     Arg::new(alloc, "listed")
         .long("listed")
@@ -370,14 +351,6 @@ fn quiet_argument<'a>(alloc: Global) -> Arg<'a> {
         .help("Write nothing to standard output")
 }
 
-/// The option that asks for words.
-pub fn words_argument<'a>(alloc: Global) -> Arg<'a> {
-    Arg::new(alloc, "words")
-        .long("words")
-        .action(ArgAction::SetTrue)
-        .help("Say in words, on standard error, what codes say")
-}
-
 fn turns_argument<'a>(alloc: Global) -> Result<Arg<'a>, AllocError> {
     Arg::new(alloc, "turns")
         .long("turns")
@@ -393,24 +366,6 @@ fn forever_argument<'a>(alloc: Global) -> Arg<'a> {
         .long("forever")
         .action(ArgAction::SetTrue)
         .help("Serve until it is stopped, in place of --turns")
-}
-
-/// The option of how long a turn waits.
-pub(crate) fn wait_argument<'a>(alloc: Global) -> Arg<'a> {
-    Arg::new(alloc, "wait")
-        .long("wait")
-        .value_name("MS")
-        .required(true)
-        .value_parser(value_parser!(u32).range(1..=LONGEST_WAIT))
-        .help("Milliseconds it waits for a datagram, 1 to 60000")
-}
-
-/// The same of how long an answer may take, which needn't be given.
-pub fn answer_argument<'a>(alloc: Global) -> Arg<'a> {
-    wait_argument(alloc)
-        .required(false)
-        .default_value("1000")
-        .help("Milliseconds for an answer, 1 to 60000")
 }
 
 fn most_argument<'a>(alloc: Global) -> Arg<'a> {

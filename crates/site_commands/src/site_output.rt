@@ -11,7 +11,8 @@ use system_files::{expect_room_in_output, takes_now};
 const MOST_AT_ONCE: usize = 4096;
 
 /// Standard output. With a log a line for which it would have to wait is left out, and counted in
-/// the log: a reader that stands still doesn't stop the site. It may also be asked to write nothing.
+/// the log: a reader that stands still doesn't stop the site. It may also be asked to write
+/// nothing.
 #[derive(Drop)]
 pub(crate) struct SiteOutput<'r, 'l, 's> {
     rt: &'r HostRuntime,

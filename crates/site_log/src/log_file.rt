@@ -54,8 +54,8 @@ impl LogFile {
         self.lost
     }
 
-    /// Appends a line, after the end of the one before if that was cut. Where that fails, the line is
-    /// lost, and standard error says so of the first.
+    /// Appends a line, after the end of the one before if that was cut. Where that fails, the line
+    /// is lost, and standard error says so of the first.
     pub(crate) fn append(&mut self, rt: &HostRuntime, line: &str) {
         let Some(file) = &mut self.file else {
             return;
@@ -134,7 +134,8 @@ fn write_line(file: &mut File, is_cut: bool, line: &str) -> io::Result<()> {
     file.write_all(line.as_bytes())
 }
 
-// Whether the file of this path ends in the middle of a line. One that can't be read counts as whole.
+// Whether the file of this path ends in the middle of a line. One that can't be read counts as
+// whole.
 fn is_cut_at(rt: &HostRuntime, path: &str) -> bool {
     match old_file(rt, path) {
         Ok(Some(file)) => is_cut(&file),

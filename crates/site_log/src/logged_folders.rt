@@ -41,11 +41,7 @@ impl<F: Folders> Folders for LoggedFolders<'_, F> {
     }
 
     fn weighs(&self, path: &str, most: u64) -> Option<u64> {
-        let weight = self.folders.weighs(path, most);
-        if weight.is_none() {
-            self.log.carries_last();
-        }
-        weight
+        self.folders.weighs(path, most)
     }
 
     fn failed_at(&self) -> Option<&str> {

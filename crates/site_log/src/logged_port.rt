@@ -46,6 +46,10 @@ impl<P: Port> Port for LoggedPort<'_, P> {
         self.log.will_note(after);
     }
 
+    fn carries_last(&mut self) {
+        self.log.carries_last();
+    }
+
     fn awaits_turns(&mut self, deposits: u32) {
         self.port.awaits_turns(deposits);
     }

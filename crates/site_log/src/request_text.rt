@@ -2,7 +2,7 @@
 
 use dgram::{Body, Message, decode};
 use std::alloc::{AllocError, Global};
-use words::{push_bag, push_ballot, push_escaped, push_slot, push_vote};
+use tokens::{push_bag, push_ballot, push_escaped, push_slot, push_vote};
 
 /// The message that these bytes are, in words: its kind, the object and the version; then, if it
 /// has them, the ballot's round and site, the bag or the folder. Bytes that are no message of this

@@ -58,8 +58,8 @@ impl<'a> SiteLog<'a> {
         }
     }
 
-    /// The site is one of these members, at this address. Its port keeps so many bytes of datagrams,
-    /// and makes tags by keys of these names, if it does.
+    /// The site is one of these members, at this address. Its port keeps so many bytes of
+    /// datagrams, and makes tags by keys of these names, if it does.
     pub fn is_at(
         &self,
         members: Members,
@@ -253,8 +253,8 @@ impl<'a> SiteLog<'a> {
         state.minute.admits(&sender, kind)
     }
 
-    // Once the minute is over, the log has what was left out of it. Where the clock can't be read it
-    // isn't over.
+    // Once the minute is over, the log has what was left out of it. Where the clock can't be read
+    // it isn't over.
     fn keep_time(&self, state: &mut State) {
         let Some(time) = now(self.rt) else {
             return;
@@ -291,8 +291,8 @@ impl<'a> SiteLog<'a> {
         }
     }
 
-    // Notes a line, unless there was no memory for it; before it how many couldn't be written, if some
-    // couldn't.
+    // Notes a line, unless there was no memory for it; before it how many couldn't be written, if
+    // some couldn't.
     fn append(&self, state: &mut State, line: Result<String, AllocError>) {
         let lost = state.file.lost();
         let text = if lost > 0 {

@@ -22,12 +22,12 @@ const PREPARE: u8 = 1;
 /// A Known's kind.
 const KNOWN: u8 = 7;
 
-/// What a site hears while a deposit of its own is pending. A site hands out a Prepare only for such
-/// a deposit: with the first a spell begins, which ends once a majority was heard since, or, unless
-/// it was said, with a Known. Where neither comes within ten seconds, it is said, once; and in the
-/// end that a majority is heard again. What comes from a member's address is heard of that member; the
-/// site itself counts, by its weight. No spell begins with a batch that has a Known: what is handed
-/// out may be about a version that it names.
+/// What a site hears while a deposit of its own is pending. A site hands out a Prepare only for
+/// such a deposit: with the first a spell begins, which ends once a majority was heard since, or,
+/// unless it was said, with a Known. Where neither comes within ten seconds, it is said, once; and
+/// in the end that a majority is heard again. What comes from a member's address is heard of that
+/// member; the site itself counts, by its weight. No spell begins with a batch that has a Known:
+/// what is handed out may be about a version that it names.
 #[derive(Drop)]
 pub struct Watch<'a> {
     rt: &'a HostRuntime,
@@ -177,7 +177,8 @@ impl<'a> Watch<'a> {
         None
     }
 
-    // The site itself, and those that were heard in the spell; where it was said, within ten seconds.
+    // The site itself, and those that were heard in the spell; where it was said, within ten
+    // seconds.
     fn heard_in(&self, spell: &Spell, present: Instant) -> Voters {
         let mut voters = Voters::new();
         voters.add(self.number);
@@ -260,8 +261,8 @@ fn is_over(time: Duration) -> bool {
     time >= Duration::from_secs(PATIENCE)
 }
 
-// What came, and from which address. A datagram of no bytes, as which one without a right tag counts,
-// is nothing.
+// What came, and from which address. A datagram of no bytes, as which one without a right tag
+// counts, is nothing.
 fn said(turn: &Turn) -> Option<(Address, &[u8])> {
     match turn {
         Turn::Got(from, bytes) => {

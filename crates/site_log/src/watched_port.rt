@@ -47,6 +47,10 @@ impl<P: Port> Port for WatchedPort<'_, P> {
         self.port.will_say(after);
     }
 
+    fn carries_last(&mut self) {
+        self.port.carries_last();
+    }
+
     fn awaits_turns(&mut self, deposits: u32) {
         self.port.awaits_turns(deposits);
     }

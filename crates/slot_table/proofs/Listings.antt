@@ -1,6 +1,7 @@
 -- The slots that are listed are those that have a row, after a row was put.
 use Rattle.std.proofs.Common.{◌≡◌, Bool, true, false, cond, ◌||◌, List, [], ◌∷◌, ◌++◌}
-use Rattle.std.proofs.Common.{Some, is_some, Result, Ok, Err, OnOk, OnErr, refl, sym, ap, subst, ◌∙◌}
+use Rattle.std.proofs.Common.{Some, is_some, Result, Ok, Err, OnOk, OnErr, refl, sym, ap, subst}
+use Rattle.std.proofs.Common.{◌∙◌}
 use Rattle.std.proofs.lemmas.List.Folds.{list_any-append}
 use Rattle.std.proofs.Math.Bool.{or-false}
 use Rattle.std.specs.List.{list_any}
@@ -23,7 +24,8 @@ module _ {R : Type 0} (slots : List SlotName) (old new : Rows R) (slot : SlotNam
           → is_some (cond t (Some row) (row_at old s)) ≡ list_any (same_slot s) slots
       go true e =
           sym there ∙ all slot
-          ∙ ap (λ (same : SlotName → Bool). list_any same slots) (ap same_slot ((same_slot_decides slot s).0 e))
+          ∙ ap (λ (same : SlotName → Bool). list_any same slots)
+          (ap same_slot ((same_slot_decides slot s).0 e))
       go false e = all s
 
   -- and else the slot goes to the end

@@ -113,7 +113,8 @@ module _ (federation : ℕ) where
   heard_of before sites (Took Nothing ∷ moves) are q h =
       wider before (Took Nothing ∷ []) moves q (heard_of before sites moves are q h)
   heard_of before sites (Took (From from bytes) ∷ moves) (millis, are) q h =
-      let there_then = heard_of (map (hears federation from bytes millis) before) sites moves are q h
+      let there_then = heard_of (map (hears federation from bytes millis) before) sites moves are q
+      h
       in
       let was = has_map (hears federation from bytes millis) before there_then.1 in (
         was.0,

@@ -3,7 +3,7 @@ use Rattle.std.proofs.Common.{◌≡◌, ℕ, ◌+◌, ◌<◌, Bool, true, fals
 use Rattle.std.proofs.Common.{take, drop, get_or, Option, Result, Ok, Err, refl, sym, ap}
 use Rattle.std.proofs.Common.{subst, ◌∙◌, cond, arith}
 use Rattle.std.proofs.Math.ListN.{set}
-use Rattle.std.proofs.lemmas.List.{take_more, take_more_set, map_more, map-append, drop-set-lt}
+use Rattle.std.proofs.lemmas.List.{take_more_set, map_more, map-append, drop-set-lt}
 use Rattle.std.proofs.lemmas.List.{get_or-drop, drop-drop}
 use Rattle.std.proofs.lemmas.List.Elements.{filter-append}
 use Rattle.std.specs.Prelude.{OnOk}
@@ -27,10 +27,6 @@ module _ (federation : ℕ) where
       (millis, heard_both (map (hears federation from bytes millis) a) b c m n p q)
   heard_both a b c (Failed ∷ m) n p q = heard_both a b c m n p q
   heard_both a b c (Handed post ∷ m) n p q = absurd p
-
-  pub listened_not : (a : Option (List Move)) (sites : List Polled)
-      → HaveListened federation a a sites sites
-  listened_not a sites = ([], Grows-none a, refl)
 
   pub listened_twice : (a b c : Option (List Move)) (r s t : List Polled)
       → HaveListened federation a b r s → HaveListened federation b c s t
@@ -77,16 +73,6 @@ module _ (federation : ℕ) where
   asks p a b question is same grows =
       subst (Grows a b) (sym (asked_by p true is))
       (subst (λ (q : List ℕ). Grows a b (Handed (p.address, q) ∷ [])) same grows)
-
-  pub asks_one_more : (sites : List Polled) (place : ℕ) (d : Polled) (a b c : Option (List Move))
-      → place < length sites → Grows a b (asked federation (take place sites))
-      → Grows b c (asked federation (get_or sites place d ∷ []))
-      → Grows a c (asked federation (take (place + 1) sites))
-  asks_one_more sites place d a b c within p q =
-      subst (λ (s : List Polled). Grows a c (asked federation s))
-      (sym (take_more sites place d within))
-      (subst (Grows a c) (sym (asked_both (take place sites) (get_or sites place d ∷ [])))
-      (Grows-trans a b c _ _ p q))
 
   -- ---- rounds
 

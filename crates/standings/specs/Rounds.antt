@@ -1,5 +1,6 @@
 -- Who is asked how they stand, and what is heard.
-use Rattle.std.specs.Prelude.{◌≡◌, ◌==◌, ◌&&◌, ℕ, Bool, true, false, List, [], ◌∷◌, ◌++◌, map, filter}
+use Rattle.std.specs.Prelude.{◌≡◌, ◌==◌, ◌&&◌, ℕ, Bool, true, false, List, [], ◌∷◌, ◌++◌, map}
+use Rattle.std.specs.Prelude.{filter}
 use Rattle.std.specs.Prelude.{Option, Some, None, if◌then◌else◌}
 use Rattle.std.specs.Option.{option_map}
 use Rattle.udp_site.specs.declared.status.Standing.{Standing}
@@ -37,8 +38,8 @@ hears federation from bytes millis p =
     }
     else p
 
--- Datagrams are taken in, and none is handed out; each may be an answer. After how many milliseconds
--- one came is what a clock said, of which nothing is said here.
+-- Datagrams are taken in, and none is handed out; each may be an answer. After how many
+-- milliseconds one came is what a clock said, of which nothing is said here.
 abbrev pub AreHeard : (federation : ℕ) → (before : List Polled) → List Move
     → (sites : List Polled) → Type 0
 AreHeard federation before [] sites = sites ≡ before

@@ -19,8 +19,8 @@ use udp_site::Port;
 /// pending P alone A lacks L`, with what it answers after MS milliseconds, and how many bags at
 /// least another site or the files know and it doesn't; or `site S silent`. At last it writes how
 /// many sites are well: `federation F K of N`. The status is 0 where all are, and else 1. So many
-/// bags are known by files, or none. Where memory runs out nothing is written but the line `memory`,
-/// and the status is 1.
+/// bags are known by files, or none. Where memory runs out nothing is written but the line
+/// `memory`, and the status is 1.
 pub fn report_standings<P: Port, C: Clock, W: CountedWrite>(
     alloc: Global,
     clock: &C,

@@ -2,7 +2,7 @@
 
 ghost use Rattle.std.specs.Prelude.{◌≡◌, ◌++◌, ℕ, [], ◌∷◌, string_bytes};
 ghost use Rattle.std.specs.List.{flat_map};
-ghost use Rattle.words.specs.Pushes.{Pushes};
+ghost use Rattle.tokens.specs.Pushes.{Pushes};
 ghost use Rattle.standings.specs.Reports.{most_known, known_by, lacks, is_heard, is_well, well};
 ghost use Rattle.standings.specs.Reports.{named, state_text, site_line, federation_line};
 

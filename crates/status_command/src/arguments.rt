@@ -2,7 +2,7 @@
 
 use clap::{Arg, ArgAction, ArgMatches, Command, value_parser};
 use json_lines::json_argument;
-use site_commands::{answer_argument, key_argument, members_argument};
+use site_client::{answer_argument, key_argument, members_argument};
 use std::alloc::{AllocError, Global};
 
 const ABOUT: &str = "Asks all sites how they stand";

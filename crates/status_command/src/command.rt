@@ -10,7 +10,7 @@ use file_words::first_piped;
 use json_lines::JsonLines;
 use known_bags::write_fault;
 use outcomes::ProgramFault;
-use site_commands::{Stop, write_stop};
+use site_client::{Stop, write_stop};
 use standings::report_standings;
 use std::io::{self, Write};
 use std::thread;

@@ -3,7 +3,7 @@
 use addresses::Address;
 use fed_types::SiteNo;
 use members_file::MemberSites;
-use site_commands::{Stop, addresses_of, client_socket, keys_for, members_at};
+use site_client::{Stop, addresses_of, client_socket, keys_for, members_at};
 use standings::Polled;
 use std::alloc::{AllocError, Global};
 use udp_site::{UdpPort, Waits};

@@ -4,7 +4,7 @@ use crate::arguments::StatusTask;
 use crate::files::push_file;
 use code_words::{LineSpeaker, meaning_of_line, push_name, say_text};
 use file_words::{first_piped, push_empty, push_file_words, push_gone, push_source_name};
-use site_commands::members_at;
+use site_client::members_at;
 use std::alloc::AllocError;
 
 /// What says the lines of sites.

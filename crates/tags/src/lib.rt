@@ -1,5 +1,6 @@
-//! Tags of datagrams: who doesn't have the key can't make one. A tag is the HMAC of all bytes before
-//! it, with SHA-256 (RFC 2104). Messages between sites have another key than clients' datagrams.
+//! Tags of datagrams: who doesn't have the key can't make one. A tag is the HMAC of all bytes
+//! before it, with SHA-256 (RFC 2104). Messages between sites have another key than clients'
+//! datagrams.
 //!
 //! ```
 //! match ring.opened(bytes) {

@@ -12,7 +12,8 @@ use std::marker::Model;
 /// The bytes of a tag.
 pub const TAG_BYTES: usize = 32;
 
-/// A key, ready to make tags: the two hashers have taken its padded blocks. A clause sees its block.
+/// A key, ready to make tags: the two hashers have taken its padded blocks. A clause sees its
+/// block.
 #[derive(Drop)]
 pub struct TagKey {
     block: [u8; BLOCK_BYTES],

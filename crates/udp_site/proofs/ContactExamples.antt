@@ -5,7 +5,7 @@ use Rattle.fed_types.specs.Lists.{is_in}
 use Rattle.fed_types.specs.Sites.{membership_of, sites_to}
 use Rattle.fed_types.specs.Voters.{with_voter}
 use Rattle.udp_site.specs.declared.pace.Pace.{Pace}
-use Rattle.udp_site.specs.declared.sign.Sign.TheVariants.{Still, Moves}
+use Rattle.udp_site.specs.declared.movement.Sign.TheVariants.{Still, Moves}
 use Rattle.udp_site.specs.Contacts.{nobody_heard}
 use Rattle.udp_site.specs.Pace.{begins, takes, listens, wait_at}
 

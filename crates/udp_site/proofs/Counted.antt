@@ -1,7 +1,6 @@
 -- What a site counts, place by place.
-use Rattle.std.proofs.Common.{◌≡◌, ◌≤◌, ℕ, suc, ◌+◌, Bool, true, false, List, length}
-use Rattle.std.proofs.Common.{sym, ap, ◌∙◌, arith}
-use Rattle.std.specs.Prelude.{if◌then◌else◌}
+use Rattle.std.proofs.Common.{◌≡◌, ◌≤◌, ℕ, suc, ◌+◌, true, false, List, length, ap, arith}
+use Rattle.std.proofs.Common.{if◌then◌else◌}
 use Rattle.records.specs.declared.record.Record.{Record}
 use Rattle.udp_site.specs.Rounds.{waits}
 use Rattle.udp_site.specs.Status.{waiting_before}
@@ -21,24 +20,16 @@ module _ (records : List Record) (place : ℕ) where
   -- the deposit at this place waits
   pub one_more : (count : ℕ) → count ≡ waiting_before records place → true ≡ waits records place
       → count + 1 ≡ waiting_before records (place + 1)
-  one_more count so_far is =
-      ap (λ n. n + 1) so_far
-      ∙ (ap (λ (b : Bool). waiting_before records place + (if b then 1 else 0)) is ∙ sym step)
+  one_more count so_far is = rw (so_far, step, ← is)
 
   -- none does
   pub none_more : (count : ℕ) → count ≡ waiting_before records place
       → false ≡ waits records place → count ≡ waiting_before records (place + 1)
-  none_more count so_far is =
-      so_far
-      ∙ (no_more (waiting_before records place)
-      ∙ (ap (λ (b : Bool). waiting_before records place + (if b then 1 else 0)) is ∙ sym step))
+  none_more count so_far is = rw (so_far, step, ← is) (no_more (waiting_before records place))
 
 -- all places were looked at
 pub all_places : (records items : List Record) (place count : ℕ) → items ≡ records
     → count ≡ waiting_before records place → place ≤ length items → length items ≤ place
     → count ≡ waiting_before records (length records)
 all_places records items place count same so_far within past =
-    so_far ∙ ap (waiting_before records) (equal place (length items) within past ∙ ap length same)
-  where
-    equal : (m n : ℕ) → m ≤ n → n ≤ m → m ≡ n
-    equal m n le ge = omega (arith, le, ge)
+    let end : place ≡ length items = omega arith in rw (so_far, end, same)

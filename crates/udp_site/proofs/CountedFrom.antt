@@ -1,6 +1,6 @@
 -- How many deposits that wait come from a place on.
 use Rattle.std.proofs.Common.{◌≡◌, ◌≤◌, ◌<◌, ◌⊎◌, inl, inr, ℕ, zero, suc, ◌+◌, ◌-◌, Bool, true}
-use Rattle.std.proofs.Common.{false, List, length, Some, None, refl, sym, ap, subst, ◌∙◌, arith}
+use Rattle.std.proofs.Common.{false, List, length, Some, None, refl, sym, ap, ◌∙◌, arith}
 use Rattle.std.proofs.lemmas.Bool.{cases_lt}
 use Rattle.records.specs.declared.record.Record.{Record}
 use Rattle.udp_site.specs.Rounds.{waits}
@@ -50,6 +50,12 @@ module _ (records : List Record) where
       go false is = is
       go true is = absurd (omega (arith, waits_within records place is, past))
 
+  past_all : (next : ℕ) → length records ≤ next → counted (length records) ≡ counted next
+  past_all next past =
+      none_between (length records) (next - length records)
+      (λ place least most. none_past place least)
+      ∙ ap counted (there (length records) next past)
+
   -- all were counted, where none waits from there on
   all_after : (next : ℕ) → IsFirst (waits records) next None
       → counted next ≡ counted (length records)
@@ -60,10 +66,7 @@ module _ (records : List Record) where
       go (inl before) =
           none_between next (length records - next) (λ place least most. none place least)
           ∙ ap counted (there next (length records) (omega (arith, before)))
-      go (inr past) =
-          sym (none_between (length records) (next - length records)
-          (λ place least most. none_past place least)
-          ∙ ap counted (there (length records) next past))
+      go (inr past) = sym (past_all next past)
 
   no_more_than_all : (next : ℕ) → counted next ≤ counted (length records)
   no_more_than_all next = go (cases_lt next (length records))
@@ -71,16 +74,9 @@ module _ (records : List Record) where
       go : (next < length records) ⊎ (length records ≤ next)
           → counted next ≤ counted (length records)
       go (inl before) =
-          subst (λ (n : ℕ). counted next ≤ counted n)
-          (there next (length records) (omega (arith, before)))
+          rw (← there next (length records) (omega (arith, before)))
           (no_less next (length records - next))
-      go (inr past) =
-          omega (
-            arith,
-            none_between (length records) (next - length records)
-                (λ place least most. none_past place least)
-                ∙ ap counted (there (length records) next past),
-          )
+      go (inr past) = omega (arith, past_all next past)
 
   -- ---- the steps of the count
 

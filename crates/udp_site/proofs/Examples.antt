@@ -1,10 +1,10 @@
 -- How long the port of site 2 waits, computed: first 1 ms, and 8 ms at most.
-use Rattle.std.proofs.Common.{◌≡◌, ℕ, List, [], ◌∷◌, refl, Some, None, true, map, replicate}
+use Rattle.std.proofs.Common.{◌≡◌, ℕ, List, [], ◌∷◌, refl, Some, None, map, replicate}
 use Rattle.fed_types.specs.Lists.{is_in}
 use Rattle.fed_types.specs.Sites.{membership_of, sites_to}
 use Rattle.fed_types.specs.Voters.{with_voter}
 use Rattle.udp_site.specs.declared.pace.Pace.{Pace}
-use Rattle.udp_site.specs.declared.sign.Sign.TheVariants.{Still, Moves, Decides}
+use Rattle.udp_site.specs.declared.movement.Sign.TheVariants.{Still, Moves, Decides}
 use Rattle.udp_site.specs.Contacts.{nobody_heard}
 use Rattle.udp_site.specs.Pace.{begins, idles, hears, registers, listens, hands, wait_at, left}
 

@@ -1,10 +1,10 @@
 -- Proposals that site 2 of three makes together, computed: its first wait is 1 ms.
-use Rattle.std.proofs.Common.{◌≡◌, ℕ, zero, suc, List, [], ◌∷◌, refl, Some, map}
+use Rattle.std.proofs.Common.{◌≡◌, ℕ, zero, suc, [], ◌∷◌, refl, Some, map}
 use Rattle.fed_types.specs.Lists.{is_in}
 use Rattle.fed_types.specs.Sites.{membership_of, sites_to}
 use Rattle.fed_types.specs.Voters.{with_voter}
 use Rattle.udp_site.specs.declared.pace.Pace.{Pace}
-use Rattle.udp_site.specs.declared.sign.Sign.TheVariants.{Decides}
+use Rattle.udp_site.specs.declared.movement.Sign.TheVariants.{Decides}
 use Rattle.udp_site.specs.Contacts.{nobody_heard}
 use Rattle.udp_site.specs.Pace.{begins, idles, hears, listens, registers, awaits_turns, proposes}
 use Rattle.udp_site.specs.Pace.{left, alone_for}

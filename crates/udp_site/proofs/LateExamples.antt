@@ -5,8 +5,8 @@ use Rattle.fed_types.specs.Lists.{is_in}
 use Rattle.fed_types.specs.Sites.{membership_of, sites_to}
 use Rattle.fed_types.specs.Voters.{with_voter}
 use Rattle.udp_site.specs.declared.pace.Pace.{Pace}
-use Rattle.udp_site.specs.declared.sign.Sign.TheVariants.{Still, Moves, Decides}
-use Rattle.udp_site.specs.declared.sign.Signal.{Signal}
+use Rattle.udp_site.specs.declared.movement.Sign.TheVariants.{Still, Moves, Decides}
+use Rattle.udp_site.specs.declared.movement.Signal.{Signal}
 use Rattle.udp_site.specs.Contacts.{nobody_heard}
 use Rattle.udp_site.specs.Pace.{begins, idles, hears, takes, proposes, registers, hands, wait_at}
 use Rattle.udp_site.specs.Pace.{between, pause_left}

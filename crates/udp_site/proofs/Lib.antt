@@ -3,7 +3,6 @@ pub mod Buffers
 pub mod HeldMore
 pub mod Said
 pub mod Called
-pub mod Calls
 pub mod Same
 pub mod Requested
 pub mod WaitingDeposits
@@ -14,9 +13,11 @@ pub mod CountedFrom
 pub mod KeptRecords
 pub mod Waited
 pub mod Growth
+pub mod Shown
 pub mod OneMoreTurn
 pub mod Printed
 pub mod Proposals
+pub mod TurnCalls
 pub mod Stopped
 pub mod TurnEnds
 pub mod Questions

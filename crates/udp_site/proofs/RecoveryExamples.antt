@@ -1,6 +1,6 @@
 -- A version's Recover is handed on once in a pause, whoever sends it, and at whatever moments.
-use Rattle.std.proofs.Common.{◌≡◌, ℕ, ◌-◌, ◌<◌, ◌≤◌, true, false, List, length}
-use Rattle.std.proofs.Common.{refl, arith, [], ◌∷◌}
+use Rattle.std.proofs.Common.{◌≡◌, ℕ, ◌-◌, ◌<◌, ◌≤◌, true, false, List, length, refl, arith, []}
+use Rattle.std.proofs.Common.{◌∷◌}
 use Rattle.std.proofs.lemmas.Bool.Decides.{nat_tests}
 use Rattle.std.proofs.lemmas.List.{get_or-set_same}
 use Rattle.udp_site.specs.declared.recoveries.Recoveries.{Recoveries}

@@ -1,6 +1,5 @@
 -- Which deposit a site proposes, in which idle turn, and whom it asks: site 2 of three, computed.
-use Rattle.std.proofs.Common.{◌≡◌, ℕ, List, [], ◌∷◌, ◌++◌, refl, Some, None}
-use Rattle.std.specs.Prelude.{Err}
+use Rattle.std.proofs.Common.{◌≡◌, ℕ, List, [], ◌∷◌, ◌++◌, refl, Some, None, Err}
 use Rattle.fed_types.specs.declared.bag_id.BagId.{BagId}
 use Rattle.fed_types.specs.Sites.{membership_of, sites_to}
 use Rattle.fed_types.specs.Slots.{same_slot}
@@ -14,12 +13,11 @@ use Rattle.proposer.specs.VolatileStates.{VolatileState}
 use Rattle.site.specs.Sites.{OpenSite}
 use Rattle.site.specs.declared.fault.SiteFault.TheVariants as faults
 use Rattle.site.specs.Calls.{Input}
-use Rattle.site_tables.specs.Contents.{deposits_of}
+use Rattle.site.specs.Contents.{deposits_of}
 use Rattle.udp_site.specs.Rounds.{next_waiting}
 use Rattle.udp_site.specs.Status.{waiting_before, waiting_from, counts_of}
-use Rattle.udp_site.specs.Turns.{Serving, Done, idles, proposes_next, proposes, tries}
-use Rattle.udp_site.specs.Turns.{begins, others}
-use Rattle.udp_site.specs.Turns.{proposal_notices, recovery_notices}
+use Rattle.udp_site.specs.Turns.{Serving, Done, idles, proposes_next, proposes, tries, begins}
+use Rattle.udp_site.specs.Turns.{others, proposal_notices, recovery_notices}
 
 abbrev said : (object : ℕ) → Entry → Record
 said object body = record { slot = record { object = object ∷ []; version = 1 }; body = body }

@@ -1,10 +1,6 @@
 -- What is settled stays so, while the records go on.
-use Rattle.std.proofs.Common.{◌≡◌, ℕ, ◌<◌, Bool, true, false, ◌||◌, is_some}
-use Rattle.std.proofs.Common.{List, [], ◌∷◌, ◌++◌, length, Option, Some}
-use Rattle.std.proofs.Common.{None, arith, refl, sym, ap, ◌∙◌}
-use Rattle.std.specs.Prelude.{fold, slice_get}
-use Rattle.std.specs.List.{list_any}
-use Rattle.std.specs.Option.{option_map}
+use Rattle.std.proofs.Common.{◌≡◌, ℕ, ◌<◌, true, is_some, List, [], ◌∷◌, ◌++◌, length, Option, Some}
+use Rattle.std.proofs.Common.{None, arith, refl, ap, ◌∙◌, fold, slice_get, option_map}
 use Rattle.std.proofs.lemmas.List.{length-append, get_or_append_left}
 use Rattle.std.proofs.lemmas.Option.{slice_get_within, slice_get-get_or, get_or_from_slice_get}
 use Rattle.std.proofs.lemmas.List.Folds.{list_any-append}
@@ -14,12 +10,9 @@ use Rattle.fed_types.specs.Slots.{SlotName}
 use Rattle.records.specs.declared.record.Record.{Record}
 use Rattle.records.specs.SlotStates.{known_of, deposit_in}
 use Rattle.slot_table.specs.Rows.{Rows, row_at}
-use Rattle.site_tables.specs.Contents.{deposits_of, with_deposit, with_bag, unless_there}
+use Rattle.site.specs.Contents.{deposits_of, with_deposit, with_bag, unless_there}
 use Rattle.udp_site.specs.inner.SlotRecords.{says_known, known_at, is_settled, AreSettled}
 use Rattle.udp_site.proofs.WaitingDeposits.{known_by_any}
-
-differ : true ≡ false → ⊥
-differ e = cc
 
 slice_get-append : {X : Type 0} (xs ys : List X) (i : ℕ) (x : X) → slice_get xs i ≡ Some x
     → slice_get (xs ++ ys) i ≡ Some x
@@ -54,16 +47,18 @@ still_there : (rs more : List Record) (i : ℕ) (row : SlotName × BagId)
     → slice_get (deposits_of rs) i ≡ Some row → slice_get (deposits_of (rs ++ more)) i ≡ Some row
 unfolding deposits_of
 still_there rs more i row is =
-    ap (λ (rows : Rows BagId). slice_get rows i) (fold-append with_deposit [] rs more)
-    ∙ keeps_place (deposits_of rs) more i row is
+    rw (fold-append with_deposit [] rs more) (keeps_place (deposits_of rs) more i row is)
 
 -- a known bag stays known
 still_known : (rs more : List Record) (slot : SlotName) → is_some (known_of slot rs) ≡ true
     → is_some (known_of slot (rs ++ more)) ≡ true
 still_known rs more slot is =
-    known_by_any slot (rs ++ more)
-    ∙ (list_any-append (says_known slot) rs more
-    ∙ ap (λ (b : Bool). b || list_any (says_known slot) more) (sym (known_by_any slot rs) ∙ is))
+    rw (
+      known_by_any slot (rs ++ more),
+      list_any-append (says_known slot) rs more,
+      ← known_by_any slot rs,
+      is,
+    )
 
 still_settled : (rs more : List Record) (place : ℕ) → is_settled rs place ≡ true
     → is_settled (rs ++ more) place ≡ true
@@ -72,11 +67,8 @@ still_settled rs more place is = go (slice_get (deposits_of rs) place) refl is
     go : (o : Option (SlotName × BagId)) → slice_get (deposits_of rs) place ≡ o
         → known_at rs (option_map (λ (row : SlotName × BagId). row.0) o) ≡ true
         → is_settled (rs ++ more) place ≡ true
-    go None e h = absurd (differ (sym h))
-    go (Some row) e h =
-        ap (λ (o : Option (SlotName × BagId)). known_at (rs ++ more)
-        (option_map (λ (r : SlotName × BagId). r.0) o)) (still_there rs more place row e)
-        ∙ still_known rs more row.0 h
+    go None e h = absurd (cc h)
+    go (Some row) e h = rw (still_there rs more place row e) (still_known rs more row.0 h)
 
 pub are_still_settled : (rs more : List Record) (before : ℕ) → AreSettled rs before
     → AreSettled (rs ++ more) before

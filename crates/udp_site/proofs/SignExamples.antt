@@ -13,8 +13,8 @@ use Rattle.dgram.specs.declared.body.Body.TheVariants.{Ask, Known, Deposit, Quer
 use Rattle.dgram.specs.declared.body.Body.TheVariants.{DepositReply, QueryReply}
 use Rattle.site.specs.declared.answer.Reply.TheVariants as replies
 use Rattle.site.specs.declared.fault.SiteFault.{SiteFault}
-use Rattle.udp_site.specs.declared.sign.Sign.TheVariants.{Still, Moves, Decides}
-use Rattle.udp_site.specs.declared.sign.Signal.{Signal}
+use Rattle.udp_site.specs.declared.movement.Sign.TheVariants.{Still, Moves, Decides}
+use Rattle.udp_site.specs.declared.movement.Signal.{Signal}
 use Rattle.udp_site.specs.Signs.{sign_by, own_sign_by, signal_at}
 use Rattle.udp_site.specs.Turns.{Serving, asked, others}
 

@@ -1,7 +1,5 @@
 -- How a site stands, computed: what it counts, and the datagrams before their checksums.
-use Rattle.std.proofs.Common.{◌≡◌, ℕ, zero, suc, List, [], ◌∷◌, ◌++◌, refl, Some, None, Bool, true}
-use Rattle.std.proofs.Common.{false, length}
-use Rattle.std.specs.Prelude.{replicate}
+use Rattle.std.proofs.Common.{◌≡◌, ℕ, List, [], ◌∷◌, ◌++◌, refl, None, false, length, replicate}
 use Rattle.udp_site.specs.declared.status.Standing.{Standing}
 use Rattle.udp_site.specs.Status.{STATUS, STATUS_REPLY, front, standing_bytes, asks_status}
 

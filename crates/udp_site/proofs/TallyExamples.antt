@@ -1,5 +1,5 @@
 -- When a site counts again, computed: it counted once, from 4 ms on, for a millisecond.
-use Rattle.std.proofs.Common.{◌≡◌, List, [], ◌∷◌, refl, Some, None, true, false}
+use Rattle.std.proofs.Common.{◌≡◌, refl, Some, None, true, false}
 use Rattle.udp_site.specs.declared.status.Counts.{Counts}
 use Rattle.udp_site.specs.declared.tally.Tally.{Tally}
 use Rattle.udp_site.specs.Tallies.{none_counted, counts_are_due, begins_counting, ends_counting}

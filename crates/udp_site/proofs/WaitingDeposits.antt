@@ -1,11 +1,9 @@
 -- Whether a bag is known for a slot, and which deposits wait.
-use Rattle.std.proofs.Common.{◌≡◌, ℕ, ◌+◌, ◌-◌, ◌<◌, ◌≤◌, Bool, true, false, cond, ◌||◌, is_some}
-use Rattle.std.proofs.Common.{List, [], ◌∷◌, length}
-use Rattle.std.proofs.Common.{Option, Some, None, arith}
-use Rattle.std.proofs.Common.{Result, Ok, Err, refl, sym, ap, subst, ◌∙◌}
-use Rattle.std.specs.Prelude.{filter_map, fold, slice_get, IfSome}
-use Rattle.std.specs.List.{cons_option, list_any, find, range_with_len}
-use Rattle.std.specs.Option.{option_or, option_map}
+use Rattle.std.proofs.Common.{◌||◌, ◌≡◌, ℕ, ◌+◌, ◌-◌, ◌<◌, ◌≤◌, Bool, true, false, is_some, List}
+use Rattle.std.proofs.Common.{[], ◌∷◌, length, Option, Some, None, arith, Result, Ok, Err, refl}
+use Rattle.std.proofs.Common.{subst, filter_map, fold, slice_get, find, option_map}
+use Rattle.std.specs.List.{cons_option, list_any, range_with_len}
+use Rattle.std.specs.Option.{option_or}
 use Rattle.std.proofs.lemmas.List.Folds.{find-append}
 use Rattle.std.proofs.lemmas.List.{length-append}
 use Rattle.std.proofs.lemmas.Option.{slice_get_within}
@@ -16,15 +14,14 @@ use Rattle.records.specs.declared.record.Record.{Record}
 use Rattle.records.specs.SlotStates.{entry_of, entries, first, if_some, known_in, known_of}
 use Rattle.records.specs.SlotStates.{deposit_of, deposit_in}
 use Rattle.slot_table.specs.Rows.{Rows, row_at}
-use Rattle.site_tables.specs.Contents.{deposits_of, with_deposit, with_bag, unless_there}
+use Rattle.site.specs.Contents.{deposits_of, with_deposit, with_bag, unless_there}
 use Rattle.site.specs.Calls.{reply_of, reply_by}
 use Rattle.site.specs.declared.answer.Reply.{Reply}
 use Rattle.site.specs.declared.answer.Reply.TheVariants as replies
 use Rattle.site.specs.declared.fault.SiteFault.{SiteFault}
 use Rattle.site.specs.declared.fault.SiteFault.TheVariants as faults
-use Rattle.udp_site.specs.inner.SlotRecords.{known_at, is_settled}
-use Rattle.udp_site.specs.Rounds.{waits_at, waits, going_round, next_waiting}
-use Rattle.udp_site.specs.inner.SlotRecords.{says_known}
+use Rattle.udp_site.specs.inner.SlotRecords.{known_at, is_settled, says_known}
+use Rattle.udp_site.specs.Rounds.{waits_at, waits, next_waiting}
 
 first_there : (o : Option BagId) (bags : List BagId) (b : Bool) → is_some (first bags) ≡ b
     → is_some (first (cons_option o bags)) ≡ is_some o || b
@@ -68,16 +65,10 @@ pub known_as_replied : (slot : SlotName) (rs : List Record) (shut : Bool)
     → (shut ≡ true → result ≡ Err faults.NeedsOpen) → result ≡ Ok reply
     → is_known reply ≡ is_some (known_of slot rs)
 known_as_replied slot rs true result reply replied needs_open is =
-    absurd (differs (sym is ∙ needs_open refl))
-  where
-    differs : ◌≡◌ {A = Result (Reply BagId) SiteFault} (Ok reply) (Err faults.NeedsOpen) → ⊥
-    differs e = cc
+    absurd (cc (is, needs_open refl))
 known_as_replied slot rs false result reply replied needs_open is =
-    ap is_known (same (sym is ∙ replied refl)) ∙ known_by_reply slot rs
-  where
-    same : ◌≡◌ {A = Result (Reply BagId) SiteFault} (Ok reply) (Ok (reply_of slot rs))
-        → reply ≡ reply_of slot rs
-    same e = cc
+    let same : reply ≡ reply_of slot rs = cc (is, replied refl) in
+    rw same (known_by_reply slot rs)
 
 -- the first that waits of the places from this one on, else of those before it
 pub next_of_two : (rs : List Record) (from : ℕ)
@@ -92,16 +83,6 @@ next_of_two rs from =
     (find-append (waits rs) (range_with_len from (length rs - from)) (range_with_len 0 from))
 
 -- ---- a deposit has a record
-
-found_next : {X : Type 0} (p : X → Bool) (x : X) (xs : List X) (y : X) (b : Bool) → p x ≡ b
-    → (find p xs ≡ Some y → p y ≡ true)
-    → ◌≡◌ {A = Option X} (cond b (Some x) (find p xs)) (Some y) → p y ≡ true
-found_next p x xs y true is later e = cc
-found_next p x xs y false is later e = later e
-
-found : {X : Type 0} (p : X → Bool) (xs : List X) (y : X) → find p xs ≡ Some y → p y ≡ true
-found p [] y e = absurd (cc e)
-found p (x ∷ xs) y e = found_next p x xs y (p x) refl (found p xs y) e
 
 unless_there_at_most : (rows : Rows BagId) (slot : SlotName) (bag : BagId) (own : Option BagId)
     → length (unless_there rows slot bag own) ≤ length rows + 1
@@ -132,13 +113,10 @@ deposits_within rs = omega (arith, at_most [] rs)
 pub waits_within : (rs : List Record) (place : ℕ) → waits rs place ≡ true → place < length rs
 waits_within rs place is = go (slice_get (deposits_of rs) place) refl is
   where
-    differ : false ≡ true → ⊥
-    differ e = cc
-
     go : (o : Option (SlotName × BagId)) → slice_get (deposits_of rs) place ≡ o
         → waits_at rs (option_map (λ (row : SlotName × BagId). row.0) o) ≡ true
         → place < length rs
-    go None e h = absurd (differ h)
+    go None e h = absurd (cc h)
     go (Some row) e h =
         omega (arith, slice_get_within (deposits_of rs) place row e, deposits_within rs)
 
@@ -150,13 +128,9 @@ past_all rs place past = go (slice_get (deposits_of rs) place) refl
         → known_at rs (option_map (λ (row : SlotName × BagId). row.0) o) ≡ false
     go None e = refl
     go (Some row) e =
-        absurd (omega (arith, slice_get_within (deposits_of rs) place row e, deposits_within rs, past))
-
-pub next_within : (rs : List Record) (from limit : ℕ) (o : Option ℕ) → o ≡ next_waiting rs from
-    → length rs < limit + 1 → IfSome o (λ (place : ℕ). place < limit)
-unfolding next_waiting
-next_within rs from limit None is below = tt
-next_within rs from limit (Some place) is below =
-    let h : place < length rs =
-    waits_within rs place (found (waits rs) (going_round rs from) place (sym is)) in
-    omega arith
+        absurd (omega (
+          arith,
+          slice_get_within (deposits_of rs) place row e,
+          deposits_within rs,
+          past,
+        ))

@@ -30,8 +30,8 @@ passes_over ThisMachine from = not (is_on_this_machine from)
 passes_over Anywhere from = false
 passes_over (Sites addresses) from = false
 
--- A datagram from this address counts. Where the sites' addresses are given, a message between sites
--- counts only from the address of the one that sends it.
+-- A datagram from this address counts. Where the sites' addresses are given, a message between
+-- sites counts only from the address of the one that sends it.
 abbrev pub counts : Origins → (from : ℕ) → List ℕ → Bool
 counts ThisMachine from bytes = true
 counts Anywhere from bytes = true

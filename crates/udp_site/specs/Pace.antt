@@ -1,12 +1,13 @@
 -- How long a port waits. Waits are milliseconds, and moments are microseconds of its clock.
-use Rattle.std.specs.Prelude.{ℕ, ◌+◌, ◌-◌, ◌*◌, ◌/◌, ◌==◌, ◌||◌, ◌&&◌, nat_lt, Bool, true, false, not}
+use Rattle.std.specs.Prelude.{ℕ, ◌+◌, ◌-◌, ◌*◌, ◌/◌, ◌==◌, ◌||◌, ◌&&◌, nat_lt, Bool, true, false}
+use Rattle.std.specs.Prelude.{not}
 use Rattle.std.specs.Prelude.{min, max, if◌then◌else◌, List, Option, Some, None}
 use Rattle.udp_site.specs.declared.contacts.Contacts.{Contacts}
 use Rattle.udp_site.specs.declared.waits.Waits.{Waits}
 use Rattle.udp_site.specs.declared.pace.Pace.{Pace}
-use Rattle.udp_site.specs.declared.sign.Sign.{Sign}
-use Rattle.udp_site.specs.declared.sign.Sign.TheVariants as signs
-use Rattle.udp_site.specs.declared.sign.Signal.{Signal}
+use Rattle.udp_site.specs.declared.movement.Sign.{Sign}
+use Rattle.udp_site.specs.declared.movement.Sign.TheVariants as signs
+use Rattle.udp_site.specs.declared.movement.Signal.{Signal}
 use Rattle.udp_site.specs.Contacts.{is_connected, notes, notes_answer, awaits, is_late}
 use Rattle.udp_site.specs.Signs.{is_prepare, is_accept, is_registered, is_pending}
 
@@ -154,7 +155,8 @@ proposes_first pace = record pace {
 abbrev pub proposes_more : Pace → Pace
 proposes_more pace = record pace { under_way = min (pace.under_way + 1) most_together }
 
--- The proposals of a batch are handed out together: no turn is idle between them, and no batch ends.
+-- The proposals of a batch are handed out together: no turn is idle between them, and no batch
+-- ends.
 abbrev pub proposes : Pace → Pace
 proposes pace =
     if pace.together && not (pace.under_way == 0)
@@ -170,9 +172,9 @@ registers pace = record pace {
   due = pace.waits.prompt;
 }
 
--- The turns of a batch were taken, or the batch ends. So many of the site's deposits wait, as far as
--- they are known, that weren't proposed in this round: the turns that it needs for these are prompt,
--- and no others are.
+-- The turns of a batch were taken, or the batch ends. So many of the site's deposits wait, as far
+-- as they are known, that weren't proposed in this round: the turns that it needs for these are
+-- prompt, and no others are.
 abbrev pub awaits_turns : Pace → (deposits : ℕ) → Pace
 awaits_turns pace deposits = record pace {
   together = false;

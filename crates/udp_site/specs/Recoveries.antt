@@ -5,8 +5,8 @@ use Rattle.std.specs.Prelude.{if◌then◌else◌}
 use Rattle.udp_site.specs.declared.recoveries.Recoveries.{Recoveries}
 use Rattle.udp_site.specs.Signs.{is_recover}
 
--- Versions fall into so many classes, of which each has a limit of its own. Those of one class share
--- it: so each version has it, and those that share it wait for each other at most.
+-- Versions fall into so many classes, of which each has a limit of its own. Those of one class
+-- share it: so each version has it, and those that share it wait for each other at most.
 abbrev pub CLASSES : ℕ
 CLASSES = 256
 

@@ -8,9 +8,9 @@ use Rattle.dgram.specs.declared.message.Message.{Message}
 use Rattle.dgram.specs.Decoded.{message_of}
 use Rattle.udp_site.specs.Traffic.{Taken, Nothing, From}
 
--- Nothing came; a site says something to this one; a client, at an address, has the folder of a path
--- to deposit, or asks for a slot's bag; a client has the site recover a slot, wherever it is, since
--- there is no reply; or what came is none of these.
+-- Nothing came; a site says something to this one; a client, at an address, has the folder of a
+-- path to deposit, or asks for a slot's bag; a client has the site recover a slot, wherever it is,
+-- since there is no reply; or what came is none of these.
 pub data Request : Type 0 where
   Waits : Request
   Says : Message → Request

@@ -4,7 +4,7 @@ use Rattle.std.specs.List.{find, range_with_len}
 use Rattle.fed_types.specs.Slots.{SlotName}
 use Rattle.records.specs.declared.record.Record.{Record}
 use Rattle.records.specs.SlotStates.{known_of}
-use Rattle.site_tables.specs.Contents.{deposits_of, slot_at}
+use Rattle.site.specs.Contents.{deposits_of, slot_at}
 
 -- no bag is known for the slot, if there is one
 abbrev pub waits_at : List Record → Option SlotName → Bool

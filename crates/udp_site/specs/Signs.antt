@@ -7,9 +7,9 @@ use Rattle.dgram.specs.Numbers.{REGISTERED, QUERY_REPLY, IS_PENDING}
 use Rattle.dgram.specs.declared.body.Body.{Body}
 use Rattle.dgram.specs.declared.body.Body.TheVariants as bodies
 use Rattle.dgram.specs.declared.message.Message.{Message}
-use Rattle.udp_site.specs.declared.sign.Sign.{Sign}
-use Rattle.udp_site.specs.declared.sign.Sign.TheVariants.{Still, Moves, Decides}
-use Rattle.udp_site.specs.declared.sign.Signal.{Signal}
+use Rattle.udp_site.specs.declared.movement.Sign.{Sign}
+use Rattle.udp_site.specs.declared.movement.Sign.TheVariants.{Still, Moves, Decides}
+use Rattle.udp_site.specs.declared.movement.Signal.{Signal}
 
 -- A proposal got its promises; a vote, or a known bag; or nothing moves. What a client says moves
 -- nothing, since the site may refuse it: see the replies below, which say what it did. That a site

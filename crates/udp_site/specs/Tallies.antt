@@ -24,4 +24,5 @@ ends_counting tally counts now = record tally { counts = Some counts; ended = no
 
 -- what an answer says: nothing before it has counted
 abbrev pub standing_of : Tally → (alone : ℕ) → Option Standing
-standing_of tally alone = option_map (λ counts. record { counts = counts; alone = alone }) tally.counts
+standing_of tally alone = option_map (λ counts. record { counts = counts; alone = alone })
+    tally.counts

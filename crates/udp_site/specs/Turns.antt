@@ -20,7 +20,7 @@ use Rattle.dgram.specs.declared.message.Message.{Message}
 use Rattle.dgram.specs.Encoding.{datagram_of}
 use Rattle.records.specs.declared.record.Record.{Record}
 use Rattle.proposer.specs.VolatileStates.{VolatileState}
-use Rattle.site_tables.specs.Contents.{deposits_of, slot_at}
+use Rattle.site.specs.Contents.{deposits_of, slot_at}
 use Rattle.site.specs.declared.answer.Answer.{Answer}
 use Rattle.site.specs.declared.answer.Line.{Line}
 use Rattle.site.specs.declared.answer.Reply.{Reply}

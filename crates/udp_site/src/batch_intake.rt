@@ -8,10 +8,10 @@ ghost use Rattle.udp_site.specs.inner.Batched.{TakesIn, TakesFirst, TakesNone, J
 ghost use Rattle.udp_site.specs.inner.Batched.{carried_of};
 
 use crate::fault::ServeFault;
+use crate::movement::is_deposit;
 use crate::port::Port;
 use crate::requests::{Asked, asked_by};
 use crate::serve_loop::receive;
-use crate::sign::is_deposit;
 use crate::turn::Turn;
 use bag_folders::Folders;
 use std::alloc::{AllocError, Global};
@@ -73,7 +73,8 @@ fn take_first<P: Port>(port: &mut P, carried: &mut Option<Turn>) -> Result<Turn,
 }
 
 /// Takes in what is there after the first turns of a batch, up to so many turns in all. Of bags no
-/// more than so many bytes are read. The answer is a deposit that came, which begins the next batch.
+/// more than so many bytes are read. The answer is a deposit that came, which begins the next
+/// batch.
 pub(crate) fn take_more<P: Port, F: Folders>(
     alloc: Global,
     federation: u64,
@@ -96,7 +97,10 @@ pub(crate) fn take_more<P: Port, F: Folders>(
         let turn = port.try_receive()?;
         match bytes_to_read(alloc, federation, folders, &turn, left) {
             Some(bytes) => left = left.saturating_sub(bytes),
-            None => return Some(turn),
+            None => {
+                port.carries_last();
+                return Some(turn);
+            }
         }
         batch.push_reserved(turn);
     }

@@ -43,7 +43,7 @@ use book::{CommitFault, SyncedCell, Waiting};
 use cell_device::Cell;
 use lines::Line;
 use site::{Site, SiteFault};
-use std::alloc::Global;
+use std::alloc::{AllocError, Global};
 use std::io::Write;
 
 /// Serves `turns` turns, in batches. A batch receives once, and then takes in what is there, up to
@@ -197,7 +197,7 @@ impl<F: Folders> Server<'_, '_, '_, '_, '_, Waiting, HeldPort, F> {
         ensures later { P.failures port.old ≤ P.failures port.new }
     {
         let mut marks = LineMarks::new();
-        self.take_batch(port, batch, carried, most, &mut marks)?;
+        self.handle_batch(port, batch, carried, most, &mut marks)?;
         match self.site.sync(held) {
             Ok(synced) => {
                 let untried = self.untried();
@@ -215,17 +215,17 @@ impl<F: Folders> Server<'_, '_, '_, '_, '_, Waiting, HeldPort, F> {
         }
     }
 
-    // Takes the turns of a batch. Where deposits wait then, the port may have turns that are idle at
-    // once: these join the batch, and so does what else is there, but no deposit. So a deposit and
-    // its proposal are synced together.
-    fn take_batch<P: Port>(
+    // Takes the turns of a batch. Where deposits wait then, the port may have turns that are idle
+    // at once: these join the batch, and so does what else is there, but no deposit. So a deposit
+    // and its proposal are synced together.
+    fn handle_batch<P: Port>(
         &mut self,
         port: &mut P,
         batch: &mut Vec<Turn>,
         carried: &mut Option<Turn>,
         most: u32,
         marks: &mut LineMarks,
-    ) -> Result<(), ServeFault>
+    ) -> Result<(), AllocError>
         requires idle { self.old.progress.idle + most ≤ 4294967295 }
         requires count { length batch.old.items
             + length (option_to_list (carried_of carried.old)) ≤ most }
@@ -248,7 +248,7 @@ impl<F: Folders> Server<'_, '_, '_, '_, '_, Waiting, HeldPort, F> {
         ensures later { P.failures port.old ≤ P.failures port.new }
     {
         self.lines.clear();
-        self.take_turns(batch, 0, marks)?;
+        self.handle_turns(batch, 0, marks)?;
         if carried.is_some() {
             return Ok(());
         }
@@ -264,17 +264,17 @@ impl<F: Folders> Server<'_, '_, '_, '_, '_, Waiting, HeldPort, F> {
         let so_far = batch.len();
         let federation = self.site.members().federation();
         *carried = take_more(self.alloc, federation, port, self.folders, batch, most, 0);
-        self.take_turns(batch, so_far, marks)
+        self.handle_turns(batch, so_far, marks)
     }
 
     // Takes the turns of a batch from this one on: what they hand out is held, and what they say
     // are lines, which are marked.
-    fn take_turns(
+    fn handle_turns(
         &mut self,
         batch: &[Turn],
         from: usize,
         marks: &mut LineMarks,
-    ) -> Result<(), ServeFault>
+    ) -> Result<(), AllocError>
         requires idle { self.old.progress.idle + (length batch.now - from) ≤ 4294967295 }
         ensures keeps { Keeps (λ port. 0) F.gives self.old self.new }
         ensures takes { (s : Serving Waiting)
@@ -333,7 +333,7 @@ impl<F: Folders> Server<'_, '_, '_, '_, '_, Waiting, HeldPort, F> {
         fault: SiteFault,
         port: &mut P,
         batch: &[Turn],
-    ) -> Result<(), ServeFault>
+    ) -> Result<(), AllocError>
         ensures handed { Hands (P.traffic port.old) (P.traffic port.new)
             (flat_map (refused_turn self.now.site.now fault) batch.now) result }
         ensures later { P.failures port.old ≤ P.failures port.new }
@@ -350,7 +350,7 @@ impl<F: Folders> Server<'_, '_, '_, '_, '_, Waiting, HeldPort, F> {
         fault: SiteFault,
         port: &mut P,
         turn: &Turn,
-    ) -> Result<(), ServeFault>
+    ) -> Result<(), AllocError>
         ensures handed { Hands (P.traffic port.old) (P.traffic port.new)
             (refused_turn self.now.site.now fault turn.now) result }
         ensures later { P.failures port.old ≤ P.failures port.new }
@@ -372,7 +372,7 @@ fn refuse_datagram<P: Port>(
     port: &mut P,
     client: Address,
     bytes: &[u8],
-) -> Result<(), ServeFault>
+) -> Result<(), AllocError>
     ensures handed { Hands (P.traffic port.old) (P.traffic port.new)
         (refused_deposit site.now fault
         (request_of site.now.book.owner.members.federation (From client bytes.now))) result }

@@ -72,7 +72,8 @@ impl Contacts {
         self.since = None;
     }
 
-    /// Whether something came since the last proposal. Then what comes from no site changes nothing.
+    /// Whether something came since the last proposal. Then what comes from no site changes
+    /// nothing.
     pub(crate) fn has_answers(&self) -> bool
         ensures { result ≡ true → notes_answer self.now None ≡ self.now }
     {

@@ -5,7 +5,6 @@ ghost use Rattle.udp_site.specs.Turns.{deposits, deposit_replies, takes_tree};
 ghost use Rattle.udp_site.specs.inner.Outcomes.{Hands};
 ghost use Rattle.udp_site.specs.inner.Servers.{Comes, Stays};
 
-use crate::fault::ServeFault;
 use crate::port::Port;
 use crate::replies::{deposit_answer, tree_answer};
 use crate::said_lines::push_deposit;
@@ -18,7 +17,7 @@ use cell_device::Cell;
 use dgram::{Body, DepositAnswer, FolderPath};
 use fed_types::{SiteNo, Slot};
 use site::{Answer, SiteFault};
-use std::alloc::Global;
+use std::alloc::{AllocError, Global};
 
 impl<C: Cell, P: Port, F: Folders> Server<'_, '_, '_, '_, '_, C, P, F> {
     /// A client asks to deposit the folder of this path. It is read first.
@@ -27,7 +26,7 @@ impl<C: Cell, P: Port, F: Folders> Server<'_, '_, '_, '_, '_, C, P, F> {
         client: Address,
         slot: Slot,
         path: &FolderPath,
-    ) -> Result<(), ServeFault>
+    ) -> Result<(), AllocError>
         ensures comes { Comes P.traffic
             (λ s. deposits C.device (F.gives self.old.folders.now) s client slot path.now)
             self.old self.new result }
@@ -40,7 +39,7 @@ impl<C: Cell, P: Port, F: Folders> Server<'_, '_, '_, '_, '_, C, P, F> {
     }
 
     // A folder was read: its tree is deposited, and the client gets a reply.
-    fn deposit_tree(&mut self, client: Address, slot: Slot, facts: &Facts) -> Result<(), ServeFault>
+    fn deposit_tree(&mut self, client: Address, slot: Slot, facts: &Facts) -> Result<(), AllocError>
         ensures comes { Comes P.traffic (λ s. takes_tree C.device s client slot (Ok facts.now))
             self.old self.new result }
         ensures stays { Stays P.failures F.gives self.old self.new }
@@ -51,8 +50,7 @@ impl<C: Cell, P: Port, F: Folders> Server<'_, '_, '_, '_, '_, C, P, F> {
         note_refusal(self.folders, &answer);
         let said = deposit_answer(&answer);
         let slot = reply_to_deposit(self.alloc, self.port, federation, from, client, slot, said)?;
-        push_deposit(self.lines, from.number(), slot, answer)?;
-        Ok(())
+        push_deposit(self.lines, from.number(), slot, answer)
     }
 
     // A folder couldn't be read: the client gets a reply.
@@ -61,7 +59,7 @@ impl<C: Cell, P: Port, F: Folders> Server<'_, '_, '_, '_, '_, C, P, F> {
         client: Address,
         slot: Slot,
         fault: TreeFault,
-    ) -> Result<(), ServeFault>
+    ) -> Result<(), AllocError>
         ensures comes { Comes P.traffic (λ s. takes_tree C.device s client slot (Err fault))
             self.old self.new result }
         ensures stays { Stays P.failures F.gives self.old self.new }
@@ -92,7 +90,7 @@ pub(crate) fn reply_to_deposit<P: Port>(
     client: Address,
     slot: Slot,
     said: Option<DepositAnswer>,
-) -> Result<Slot, ServeFault>
+) -> Result<Slot, AllocError>
     ensures slot { IfOk result (λ s. s ≡ slot) }
     ensures handed { Hands (P.traffic port.old) (P.traffic port.new)
         (deposit_replies federation from client slot said) result }

@@ -5,7 +5,6 @@ ghost use Rattle.std.specs.List.{flat_map};
 ghost use Rattle.udp_site.specs.inner.HeldPosts.{posts_held, post_of};
 ghost use Rattle.udp_site.specs.inner.Outcomes.{Hands};
 
-use crate::fault::ServeFault;
 use crate::line_marks::LineMarks;
 use crate::port::Port;
 use crate::port_fault::PortFault;
@@ -13,7 +12,7 @@ use crate::sends::send;
 use crate::turn::Turn;
 use addresses::Address;
 use site::Synced;
-use std::alloc::Global;
+use std::alloc::{AllocError, Global};
 
 /// A datagram that is held.
 #[derive(Drop)]
@@ -49,7 +48,7 @@ impl HeldPort {
         port: &mut P,
         marks: &LineMarks,
         untried: u32,
-    ) -> Result<(), ServeFault>
+    ) -> Result<(), AllocError>
         ensures hands { Hands (P.traffic port.old) (P.traffic port.new) (posts_held self.old)
             result }
         ensures later { P.failures port.old ≤ P.failures port.new }
@@ -64,7 +63,7 @@ impl HeldPort {
 }
 
 // Hands out these datagrams, in order.
-fn send_held<P: Port>(port: &mut P, posts: &[HeldPost]) -> Result<(), ServeFault>
+fn send_held<P: Port>(port: &mut P, posts: &[HeldPost]) -> Result<(), AllocError>
     ensures hands { Hands (P.traffic port.old) (P.traffic port.new)
         (flat_map (λ post. post_of post ∷ []) posts.now) result }
     ensures later { P.failures port.old ≤ P.failures port.new }

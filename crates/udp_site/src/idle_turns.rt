@@ -9,7 +9,6 @@ ghost use Rattle.udp_site.specs.Turns.{idles, proposing};
 ghost use Rattle.udp_site.specs.inner.Servers.{Comes, ComesOfTurn, Keeps, Stays};
 ghost use Rattle.udp_site.specs.inner.SlotRecords.{says_known, is_settled, AreSettled, IsFirst};
 
-use crate::fault::ServeFault;
 use crate::pace::MOST_TOGETHER;
 use crate::port::Port;
 use crate::said_lines::push_proposal;
@@ -20,6 +19,7 @@ use cell_device::Cell;
 use fed_types::Slot;
 use records::{Entry, Record};
 use site::{Reply, Site};
+use std::alloc::AllocError;
 
 /// How far the idle turns have come.
 #[derive(Drop)]
@@ -35,7 +35,7 @@ pub(crate) struct IdleProgress {
 impl<C: Cell, P: Port, F: Folders> Server<'_, '_, '_, '_, '_, C, P, F> {
     /// Nothing came: where the count of such turns is a multiple of the site's number, it proposes
     /// the next of its deposits without a known bag.
-    pub(crate) fn idle(&mut self) -> Result<(), ServeFault>
+    pub(crate) fn idle(&mut self) -> Result<(), AllocError>
         requires { self.old.progress.idle < 4294967295 }
         ensures turn { ComesOfTurn P.traffic (idles C.device self.old.addresses.now)
             self.old self.new result }
@@ -67,7 +67,7 @@ impl<C: Cell, P: Port, F: Folders> Server<'_, '_, '_, '_, '_, C, P, F> {
     }
 
     // Proposes the slot's deposit.
-    fn propose(&mut self, slot: &Slot) -> Result<(), ServeFault>
+    fn propose(&mut self, slot: &Slot) -> Result<(), AllocError>
         ensures comes { Comes P.traffic (λ s. proposing C.device self.old.addresses.now s slot.now)
             self.old self.new result }
         ensures stays { Stays P.failures F.gives self.old self.new }
@@ -75,8 +75,7 @@ impl<C: Cell, P: Port, F: Folders> Server<'_, '_, '_, '_, '_, C, P, F> {
         let number = self.site.number().number();
         let answer = self.site.propose(slot);
         send_answer(self.port, self.addresses, &answer)?;
-        push_proposal(self.lines, number, answer)?;
-        Ok(())
+        push_proposal(self.lines, number, answer)
     }
 }
 
@@ -122,7 +121,8 @@ fn first_waiting<C: Cell>(site: &Site<C>, from: usize) -> Option<usize>
     None
 }
 
-// How many deposits without a known bag there are from this place on, up to as many as a port counts.
+// How many deposits without a known bag there are from this place on, up to as many as a port
+// counts.
 fn waiting_from<C: Cell>(site: &Site<C>, from: usize) -> u32
     ensures { result ≡ waiting_from site.now.book.records from }
 {

@@ -32,8 +32,8 @@ impl OwnDatagrams {
         }
     }
 
-    /// Keeps a datagram that is handed out for this address, if it is the port's own one. The answer
-    /// is whether it did: else the datagram is to be sent, as it is where there is no room.
+    /// Keeps a datagram that is handed out for this address, if it is the port's own one. The
+    /// answer is whether it did: else the datagram is to be sent, as it is where there is no room.
     pub(crate) fn keep(&mut self, alloc: Global, to: Address, bytes: &[u8]) -> bool
         ensures own { result ≡ true → to ≡ self.old.address }
         ensures kept { result ≡ true

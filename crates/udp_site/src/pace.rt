@@ -1,16 +1,17 @@
 ghost use Rattle.std.specs.Prelude.{◌≡◌, ◌≤◌, ◌+◌, ◌*◌, min};
 ghost use Rattle.std.specs.Prelude.{ℕ, false, Some, None};
 ghost use Rattle.dgram.specs.Decoded.{message_of};
-ghost use Rattle.udp_site.specs.declared.sign.Sign.{Sign};
+ghost use Rattle.udp_site.specs.declared.movement.Sign.{Sign};
 ghost use Rattle.udp_site.specs.Pace.{begins, longer, idles, hears, meets, listens, arrives, takes};
 ghost use Rattle.udp_site.specs.Pace.{answers_late, proposes, proposes_first, proposes_more};
 ghost use Rattle.udp_site.specs.Pace.{registers, awaits_turns, hands, hears_quorum, is_prompt};
 ghost use Rattle.udp_site.specs.Pace.{goes_round, most_prompt};
-ghost use Rattle.udp_site.specs.Pace.{wait_at, between, pause, pause_left, at_most, left, alone_for};
+ghost use Rattle.udp_site.specs.Pace.{wait_at, between, pause, pause_left, at_most, left};
+ghost use Rattle.udp_site.specs.Pace.{alone_for};
 ghost use Rattle.udp_site.specs.Signs.{signal_at};
 
 use crate::contacts::Contacts;
-use crate::sign::{
+use crate::movement::{
     Sign, Signal, is_accept, is_pending, is_prepare, is_registered, is_request, is_vote,
 };
 use crate::waits::Waits;
@@ -274,8 +275,8 @@ impl Pace {
             .min(MOST_PROMPT)
     }
 
-    /// The turns of a batch were taken, or the batch ends. So many deposits wait that weren't proposed
-    /// in this round, as far as that is known.
+    /// The turns of a batch were taken, or the batch ends. So many deposits wait that weren't
+    /// proposed in this round, as far as that is known.
     pub(crate) fn awaits_turns(&mut self, deposits: u32)
         ensures { self.new ≡ awaits_turns self.old deposits }
     {

@@ -10,13 +10,13 @@ ghost use Rattle.udp_site.specs.Tallies.{ends_counting};
 ghost use Rattle.udp_site.specs.inner.Paced.{EndsWait, WantsCounts};
 
 use crate::contacts::Contacts;
+use crate::movement::Signal;
 use crate::origins::Origins;
 use crate::own_datagrams::OwnDatagrams;
 use crate::pace::Pace;
 use crate::receive_buffer::{ask_for_buffer, buffer_of};
 use crate::recoveries::Recoveries;
 use crate::seals::handed_on;
-use crate::sign::Signal;
 use crate::status::{Counts, is_status_question, status_answer};
 use crate::tally::Tally;
 use crate::waits::Waits;
@@ -132,9 +132,9 @@ impl<R: Clock + Drop> PacedSocket<R> {
     }
 
     /// Waits for a datagram, for as long as the pace says, and takes it into the buffer; or the
-    /// turn is idle. Where the pace says so at once, what has come stays where it is. A datagram from
-    /// another address is passed over, and so is a client's request to recover that comes too early.
-    /// So is a question how the site stands, once it is answered.
+    /// turn is idle. Where the pace says so at once, what has come stays where it is. A datagram
+    /// from another address is passed over, and so is a client's request to recover that comes too
+    /// early. So is a question how the site stands, once it is answered.
     pub(crate) fn wait_for(
         &self,
         alloc: Global,
@@ -313,8 +313,8 @@ impl<R: Clock + Drop> PacedSocket<R> {
         self.pace.hands(own, to, bytes);
     }
 
-    /// Sends a datagram to this address, with its tag where there are keys. One for which there is no
-    /// key is refused.
+    /// Sends a datagram to this address, with its tag where there are keys. One for which there is
+    /// no key is refused.
     pub(crate) fn send_to(&self, alloc: Global, to: Address, bytes: &[u8]) -> io::Result<()> {
         let Some(keys) = &self.keys else {
             return self.send_bytes(to, bytes);
@@ -340,8 +340,8 @@ impl<R: Clock + Drop> PacedSocket<R> {
         Err(ErrorKind::Interrupted.into())
     }
 
-    // Takes a datagram that is there. Where none is, it waits for so many microseconds at most until
-    // one may be. One from where none is taken is passed over.
+    // Takes a datagram that is there. Where none is, it waits for so many microseconds at most
+    // until one may be. One from where none is taken is passed over.
     fn taken_within(
         &self,
         micros: u64,

@@ -41,6 +41,13 @@ pub trait Port {
         ensures failures { failures self.new ≡ failures self.old }
     {}
 
+    /// What it took in last is for the batch after the one that is taken in. A port that is logged
+    /// tells its log, which counts it with that batch.
+    fn carries_last(&mut self)
+        ensures traffic { traffic self.new ≡ traffic self.old }
+        ensures failures { failures self.new ≡ failures self.old }
+    {}
+
     /// So many deposits of the site wait that it hasn't proposed yet, as far as they were counted:
     /// before a batch is synced, and after it. A port may have as many turns idle at once as the
     /// site needs to propose them.

@@ -6,7 +6,6 @@ ghost use Rattle.udp_site.specs.inner.Others.{others_of};
 ghost use Rattle.udp_site.specs.inner.Outcomes.{AsksFor};
 ghost use Rattle.udp_site.specs.inner.Servers.{Comes, Stays};
 
-use crate::fault::ServeFault;
 use crate::port::Port;
 use crate::replies::query_answer;
 use crate::said_lines::{push_refused, push_reply};
@@ -19,11 +18,12 @@ use dgram::Body;
 use fed_types::{SiteNo, Slot};
 use lines::Line;
 use site::{Reply, Site, SiteFault};
+use std::alloc::AllocError;
 
 impl<C: Cell, P: Port, F: Folders> Server<'_, '_, '_, '_, '_, C, P, F> {
     /// A client asks for the slot's bag. Where the site doesn't know it, it asks the other members
     /// after its reply.
-    pub(crate) fn handle_query(&mut self, client: Address, slot: Slot) -> Result<(), ServeFault>
+    pub(crate) fn handle_query(&mut self, client: Address, slot: Slot) -> Result<(), AllocError>
         ensures comes { Comes P.traffic (λ s. queries self.old.addresses.now s client slot)
             self.old self.new result }
         ensures stays { Stays P.failures F.gives self.old self.new }
@@ -54,10 +54,11 @@ fn ask_unless_known<C: Cell, P: Port>(
     lines: &mut Vec<Line>,
     slot: &Slot,
     known: Result<Reply, SiteFault>,
-) -> Result<(), ServeFault>
+) -> Result<(), AllocError>
     requires { IsOk known → site.now.book.needs_opening ≡ false }
     ensures comes { (old : Serving C) → old.site ≡ site.now → IsServing old
-        → AsksFor addresses.now old slot.now (asked old known) (P.traffic port.old) (P.traffic port.new)
+        → AsksFor addresses.now old slot.now (asked old known) (P.traffic port.old)
+        (P.traffic port.new)
         lines.old.items lines.new.items result }
     ensures later { P.failures port.old ≤ P.failures port.new }
 {
@@ -79,7 +80,7 @@ fn ask_others<C: Cell, P: Port>(
     addresses: &[Address],
     lines: &mut Vec<Line>,
     slot: &Slot,
-) -> Result<(), ServeFault>
+) -> Result<(), AllocError>
     requires { site.now.book.needs_opening ≡ false }
     ensures comes { (old : Serving C) → old.site ≡ site.now → IsServing old
         → AsksFor addresses.now old slot.now (others old) (P.traffic port.old) (P.traffic port.new)
@@ -100,7 +101,7 @@ fn ask_other<C: Cell, P: Port>(
     lines: &mut Vec<Line>,
     slot: &Slot,
     member: SiteNo,
-) -> Result<(), ServeFault>
+) -> Result<(), AllocError>
     requires { site.now.book.needs_opening ≡ false }
     ensures comes { (old : Serving C) → old.site ≡ site.now → IsServing old
         → AsksFor addresses.now old slot.now (others_of old (member ∷ [])) (P.traffic port.old)
@@ -112,9 +113,6 @@ fn ask_other<C: Cell, P: Port>(
     }
     match site.ask(slot, member) {
         Ok(answer) => send_all(port, addresses, answer.sends.as_slice()),
-        Err(_) => {
-            push_refused(lines, site.number().number(), SiteFault::Memory)?;
-            Ok(())
-        }
+        Err(_) => { push_refused(lines, site.number().number(), SiteFault::Memory) }
     }
 }

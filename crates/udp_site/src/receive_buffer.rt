@@ -18,8 +18,8 @@ pub(crate) fn ask_for_buffer(socket: &UdpSocket) {
     unsafe { setsockopt(socket.as_raw_fd(), SOL_SOCKET, SO_RCVBUF, &value, 4) };
 }
 
-/// How many bytes it has, if the system says so. Linux counts twice what was asked for, to have room
-/// for what it keeps beside each datagram.
+/// How many bytes it has, if the system says so. Linux counts twice what was asked for, to have
+/// room for what it keeps beside each datagram.
 pub(crate) fn buffer_of(socket: &UdpSocket) -> Option<u32> {
     let mut value: Value = [0; 16];
     let mut length = 4;

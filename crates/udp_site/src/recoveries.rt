@@ -3,7 +3,7 @@
 ghost use Rattle.std.specs.Prelude.{◌≡◌, ℕ, get_or, set};
 ghost use Rattle.udp_site.specs.Recoveries.{none_handed_on, class_of, is_early, hands_on};
 
-use crate::sign::is_recover;
+use crate::movement::is_recover;
 
 /// So many classes of versions have a limit each: as many as a byte has values.
 const CLASSES: usize = 256;

@@ -5,21 +5,20 @@ ghost use Rattle.std.specs.List.{flat_map};
 ghost use Rattle.udp_site.specs.inner.Outcomes.{Hands};
 ghost use Rattle.udp_site.specs.Turns.{posts_to, posts_of, outgoing_posts, replies_to};
 
-use crate::fault::ServeFault;
 use crate::port::Port;
 use crate::port_fault::PortFault;
 use addresses::Address;
 use dgram::{Body, LONGEST_DATAGRAM, Message, encode};
 use fed_types::{SiteNo, Slot};
 use site::{Answer, Outgoing, SiteFault};
-use std::alloc::Global;
+use std::alloc::{AllocError, Global};
 
 /// Hands out the datagrams of an answer, in order. A refusal has none.
 pub(crate) fn send_answer<P: Port>(
     port: &mut P,
     addresses: &[Address],
     answer: &Result<Answer, SiteFault>,
-) -> Result<(), ServeFault>
+) -> Result<(), AllocError>
     ensures hands { Hands (P.traffic port.old) (P.traffic port.new)
         (posts_of addresses.now answer.now) result }
     ensures later { P.failures port.old ≤ P.failures port.new }
@@ -35,7 +34,7 @@ pub(crate) fn send_all<P: Port>(
     port: &mut P,
     addresses: &[Address],
     sends: &[Outgoing],
-) -> Result<(), ServeFault>
+) -> Result<(), AllocError>
     ensures hands { Hands (P.traffic port.old) (P.traffic port.new)
         (flat_map (outgoing_posts addresses.now) sends.now) result }
     ensures later { P.failures port.old ≤ P.failures port.new }
@@ -52,7 +51,7 @@ pub(crate) fn send_to_site<P: Port>(
     addresses: &[Address],
     site: SiteNo,
     bytes: &[u8],
-) -> Result<(), ServeFault>
+) -> Result<(), AllocError>
     ensures hands { Hands (P.traffic port.old) (P.traffic port.new)
         (posts_to addresses.now site bytes.now) result }
     ensures later { P.failures port.old ≤ P.failures port.new }
@@ -71,7 +70,7 @@ pub(crate) fn reply<P: Port>(
     to: Address,
     slot: Slot,
     body: Body,
-) -> Result<Slot, ServeFault>
+) -> Result<Slot, AllocError>
     ensures slot { IfOk result (λ s. s ≡ slot) }
     ensures hands { Hands (P.traffic port.old) (P.traffic port.new)
         (replies_to federation to slot body) result }
@@ -85,13 +84,13 @@ pub(crate) fn reply<P: Port>(
 }
 
 /// Hands out a datagram. One that is lost since the port's device failed counts as handed out.
-pub(crate) fn send<P: Port>(port: &mut P, to: Address, bytes: &[u8]) -> Result<(), ServeFault>
+pub(crate) fn send<P: Port>(port: &mut P, to: Address, bytes: &[u8]) -> Result<(), AllocError>
     ensures hands { Hands (P.traffic port.old) (P.traffic port.new) ((to, bytes.now) ∷ []) result }
     ensures later { P.failures port.old ≤ P.failures port.new }
 {
     match port.send(to, bytes) {
         Ok(()) => Ok(()),
         Err(PortFault::Device) => Ok(()),
-        Err(PortFault::Memory) => Err(ServeFault::Memory),
+        Err(PortFault::Memory) => Err(AllocError),
     }
 }

@@ -91,11 +91,7 @@ impl<C: Cell, P: Port, F: Folders> Server<'_, '_, '_, '_, '_, C, P, F> {
     {
         self.lines.clear();
         let turn = receive(self.port)?;
-        // Only where memory runs out is a turn broken off.
-        match self.handle_turn(&turn) {
-            Ok(()) => {}
-            Err(_) => return Err(ServeFault::Memory),
-        }
+        self.handle_turn(&turn)?;
         let written = write_lines(self.alloc, self.lines, output);
         // A cell that failed is the answer also where that can't be written.
         if is_refused(self.lines) {

@@ -7,7 +7,7 @@ ghost use Rattle.dgram.specs.Encoding.{front_bytes};
 ghost use Rattle.udp_site.specs.Status.{front, standing_bytes};
 ghost use Rattle.udp_site.specs.Status.{status_question, status_answer};
 
-use crate::sign::kind_byte;
+use crate::movement::kind_byte;
 use dgram::{LAYOUT, MAGIC};
 use fed_types::SiteNo;
 use fields::put_checksum;

@@ -5,7 +5,6 @@ ghost use Rattle.udp_site.specs.Traffic.{taken, From};
 ghost use Rattle.udp_site.specs.Turns.{turn_of};
 ghost use Rattle.udp_site.specs.inner.Servers.{Comes, ComesOfTurn, Keeps, Stays};
 
-use crate::fault::ServeFault;
 use crate::port::Port;
 use crate::requests::{Asked, asked_by};
 use crate::server::Server;
@@ -13,11 +12,12 @@ use crate::turn::Turn;
 use addresses::Address;
 use bag_folders::Folders;
 use cell_device::Cell;
+use std::alloc::AllocError;
 
 impl<C: Cell, P: Port, F: Folders> Server<'_, '_, '_, '_, '_, C, P, F> {
     /// Does what a turn asks for: calls the site, hands out its datagrams and then replies, and
     /// adds the lines to write.
-    pub(crate) fn handle_turn(&mut self, turn: &Turn) -> Result<(), ServeFault>
+    pub(crate) fn handle_turn(&mut self, turn: &Turn) -> Result<(), AllocError>
         requires { self.old.progress.idle < 4294967295 }
         ensures turn { ComesOfTurn P.traffic
             (λ s. turn_of C.device self.old.addresses.now (F.gives self.old.folders.now) s
@@ -31,7 +31,7 @@ impl<C: Cell, P: Port, F: Folders> Server<'_, '_, '_, '_, '_, C, P, F> {
     }
 
     // A datagram came from this port.
-    fn handle_datagram(&mut self, from: Address, bytes: &[u8]) -> Result<(), ServeFault>
+    fn handle_datagram(&mut self, from: Address, bytes: &[u8]) -> Result<(), AllocError>
         ensures comes { Comes P.traffic
             (λ s. turn_of C.device self.old.addresses.now (F.gives self.old.folders.now) s
             (From from bytes.now)) self.old self.new result }

@@ -1,10 +1,10 @@
 use crate::contacts::Contacts;
+use crate::movement::signal_of;
 use crate::origins::Origins;
 use crate::own_datagrams::OwnDatagrams;
 use crate::paced_socket::{Arrival, End, PacedSocket};
 use crate::port::Port;
 use crate::port_fault::PortFault;
-use crate::sign::signal_of;
 use crate::status::Counts;
 use crate::turn::Turn;
 use crate::waits::Waits;
@@ -39,9 +39,9 @@ impl<R: Clock + Drop> UdpPort<R> {
     ghost use Rattle.udp_site.specs.Recoveries.{none_handed_on};
     ghost use Rattle.udp_site.specs.UdpPorts.{failures_of, pace_of, recoveries_of};
 
-    /// A client's port at this address, or a free one of the host where its port is 0. It takes what
-    /// comes from these origins, and its pace follows the messages of a federation. It is refused
-    /// with `Device` where the first wait is 0 or the system refuses it, or with `Memory`.
+    /// A client's port at this address, or a free one of the host where its port is 0. It takes
+    /// what comes from these origins, and its pace follows the messages of a federation. It is
+    /// refused with `Device` where the first wait is 0 or the system refuses it, or with `Memory`.
     pub fn bind(
         net: &R,
         federation: u64,
@@ -261,7 +261,8 @@ fn turn_at<R: Clock + Drop>(
     own: &mut OwnDatagrams,
     socket: &mut PacedSocket<R>,
 ) -> io::Result<Turn>
-    ensures paced { IfOk result (TurnIsPaced federation own.old.address socket.old.pace socket.new.pace
+    ensures paced { IfOk result (TurnIsPaced federation own.old.address socket.old.pace
+        socket.new.pace
         socket.old.recoveries socket.new.recoveries) }
     ensures address { own.new.address ≡ own.old.address }
     ensures same { OnErr result (socket.new.pace ≡ socket.old.pace) }
@@ -329,8 +330,8 @@ fn turn_of<R: Clock + Drop>(
     }
 }
 
-/// The pace of the socket learns from what came at this moment from an address. A datagram is decoded
-/// once more only where that may change something.
+/// The pace of the socket learns from what came at this moment from an address. A datagram is
+/// decoded once more only where that may change something.
 fn learn<R: Clock + Drop>(
     alloc: Global,
     federation: u64,

@@ -1,7 +1,8 @@
 -- What a site does with a message that was sent agrees with a network that is kept.
-use Rattle.std.proofs.Common.{ℕ, ◌≡◌, Bool, true, false, cond, inl, inr, refl, sym, ap}
-use Rattle.std.proofs.Common.{subst, ◌∙◌, List, [], ◌∷◌, ◌++◌, Option, None, Some}
+use Rattle.std.proofs.Common.{ℕ, ◌≡◌, true, false, inl, inr, refl, sym, ap}
+use Rattle.std.proofs.Common.{subst, List, [], ◌∷◌, ◌++◌, Option, None, Some}
 use Rattle.std.specs.Prelude.{Result, Ok}
+use Rattle.std.proofs.lemmas.Bool.{cond_both}
 use Rattle.fed_types.specs.declared.bag_id.BagId.{BagId}
 use Rattle.fed_types.specs.declared.vote.Vote.{Vote}
 use Rattle.fed_types.specs.Ballots.{BallotNumber, same_ballot}
@@ -16,8 +17,7 @@ use Rattle.records.specs.SlotStates.{deposit_of, known_of}
 use Rattle.records.proofs.Bounds.{deposit_among, known_among}
 use Rattle.dgram.specs.declared.body.Body.{Body}
 use Rattle.dgram.specs.declared.body.Body.TheVariants.{Prepare, Promise, Accept, Accepted, Refused}
-use Rattle.dgram.specs.declared.body.Body.TheVariants.{Ask, Known, Deposit, Query, Recover}
-use Rattle.dgram.specs.declared.body.Body.TheVariants.{DepositReply, QueryReply}
+use Rattle.dgram.specs.declared.body.Body.TheVariants.{Ask, Known}
 use Rattle.dgram.specs.declared.message.Message.{Message}
 use Rattle.dgram.specs.Encoding.{body_from}
 use Rattle.dgram.specs.Heard.{bodies_of, PromiseFrom, promisers, voters_for}
@@ -25,7 +25,6 @@ use Rattle.dgram.proofs.Heard.{has_message, has_accepted}
 use Rattle.acceptor.specs.declared.decision.Response.{Response}
 use Rattle.acceptor.specs.declared.decision.Response.TheVariants as answer
 use Rattle.acceptor.specs.declared.decision.Decision.{Decision}
-use Rattle.acceptor.specs.Decisions.{prepare_decision, accept_decision}
 use Rattle.learner.specs.LearnedBags.{chosen_by}
 use Rattle.proposer.specs.Proposals.{Current, gathered, highest_prior, bag_of, proposal, ready}
 use Rattle.proposer.specs.Proposals.{completes}
@@ -36,9 +35,8 @@ use Rattle.site.specs.declared.fault.SiteFault.{SiteFault}
 use Rattle.site.specs.Arrivals.{answer_body, addressees, decided, proposing, learning, telling}
 use Rattle.site.specs.Arrivals.{on_body, is_member, on_arrival}
 use Rattle.site.specs.Calls.{Input, Arrives}
-use Rattle.site.specs.Effects.{Send, to_each, only_says, quiet}
-use Rattle.world_law.specs.Laws.{OnRecord, WasSent, IsChosen, SatisfiesP2c, Report, notice_report}
-use Rattle.lines.specs.declared.notice.Notice.{Notice}
+use Rattle.site.specs.Effects.{Send, only_says, quiet}
+use Rattle.world_law.specs.Laws.{WasSent, IsChosen, SatisfiesP2c}
 use Rattle.lines.specs.declared.notice.Notice.TheVariants.{Learned}
 use Rattle.lines.specs.Notices.{notice_of}
 use Rattle.world_law.specs.Networks.{Network, volatile_in}
@@ -48,9 +46,8 @@ use Rattle.world_law.proofs.Conditions.{given_if, kept_if, and_not, unless_known
 use Rattle.world_law.proofs.Step.{Extends, Sound, IsNew, ReportsChosen, reports_nothing}
 use Rattle.world_law.proofs.Step.{reports_plain}
 use Rattle.world_law.proofs.Deeds.{MayDeposit, Deed, some_same, sent_extends, chosen_extends}
-use Rattle.world_law.proofs.Deeds.{carries_each, only_sends, nothing_sent, keeps_one}
-use Rattle.world_law.proofs.Deeds.{hears_recalls, same_recalls}
-use Rattle.world_law.proofs.Deeds.{NoAccept, not_new}
+use Rattle.world_law.proofs.Deeds.{carries_each, only_sends, nothing_sent, keeps_one, hears_recalls}
+use Rattle.world_law.proofs.Deeds.{same_recalls, NoAccept, not_new}
 use Rattle.world_law.proofs.Decided.{DecisionSound, prepare_sound, accept_sound}
 
 module _ (q : QuorumSystem) (laws : AreQuorums q) (w : Network) (inv : Kept q w) (n : ℕ) where
@@ -93,14 +90,13 @@ module _ (q : QuorumSystem) (laws : AreQuorums q) (w : Network) (inv : Kept q w)
     now_sent : (e : Message) → Has e now.heard → WasSent w e.slot e.body
     now_sent e h = elim (has_cases old.heard (m ∷ []) h) [
       | inl before ↦ (inv.volatiles n).heard e before
-      | inr new ↦ subst (λ (y : Message). WasSent w y.slot y.body) (has_one new) sent
+      | inr new ↦ rw (← has_one new) sent
     ]
 
     now_members : (e : Message) → Has e now.heard → is_member q (body_from e.body) ≡ true
     now_members e h = elim (has_cases old.heard (m ∷ []) h) [
       | inl before ↦ (inv.volatiles n).members e before
-      | inr new ↦
-          subst (λ (y : Message). is_member q (body_from y.body) ≡ true) (has_one new) member
+      | inr new ↦ rw (← has_one new) member
     ]
 
     -- an effect whose new messages propose nothing
@@ -128,9 +124,8 @@ module _ (q : QuorumSystem) (laws : AreQuorums q) (w : Network) (inv : Kept q w)
     -- ---- the acceptor
 
     no_accept : (a : Response) → NoAccept (answer_body n a)
-    no_accept (answer.Promised b vote) = tt
     no_accept (answer.Accepted vote) = tt
-    no_accept (answer.Refused asked standing) = tt
+    no_accept a = tt
 
     decided_deed : (asker : ℕ) (d : Decision)
         → ((sites : List ℕ) → DecisionSound q w n (MayDeposit input) slot sites d)
@@ -143,13 +138,12 @@ module _ (q : QuorumSystem) (laws : AreQuorums q) (w : Network) (inv : Kept q w)
 
     learned_chosen : {bag : BagId} → IsChosen q w slot bag
         → ReportsChosen q w (Some (Learned n slot bag))
-    learned_chosen {bag} c = record { chosen = λ l r e f. go l r (some_same e) f }
-      where
-        go : (l : Notice) (r : Report) → Learned n slot bag ≡ l → notice_report l ≡ Some r
-            → IsChosen q w r.slot r.bag
-        go l r e f =
-            let g : Some (record { slot = slot; bag = bag }) ≡ Some r = ap notice_report e ∙ f in
-            subst (λ (r : Report). IsChosen q w r.slot r.bag) (some_same g) c
+    learned_chosen {bag} c = record {
+      chosen = λ l r e f.
+          let said : Learned n slot bag ≡ l = cc in
+          let same : record { slot = slot; bag = bag } ≡ r = cc (rw (← said) at f) in
+          rw (← same) c;
+    }
 
     learning_deed : (o : Option BagId) → ((bag : BagId) → o ≡ Some bag → IsChosen q w slot bag)
         → Deed q w n input (learning slot o now)
@@ -157,7 +151,7 @@ module _ (q : QuorumSystem) (laws : AreQuorums q) (w : Network) (inv : Kept q w)
     learning_deed (Some bag) chosen =
         plain_deed _ [] (Ok (Some (site_lines.Known slot bag))) (Ask n)
         (learned_chosen (chosen bag refl))
-        (keeps_one q w n (MayDeposit input) slot (entry.Known bag) (Ask n) []
+        (keeps_one q w n _ slot (entry.Known bag) _ _
         (λ e h. absurd (has_none h)) refl
         (λ x g. chosen_extends g (chosen bag refl)) (λ x g. tt))
         tt
@@ -167,9 +161,7 @@ module _ (q : QuorumSystem) (laws : AreQuorums q) (w : Network) (inv : Kept q w)
     telling_deed asker None e = quiet_deed
     telling_deed asker (Some bag) e =
         plain_deed None _ (Ok None) (Known n bag) reports_nothing
-        (only_sends q w n (MayDeposit input) slot (Known n bag)
-        (to_each slot (Known n bag) (asker ∷ []))
-        (carries_each slot (Known n bag) (asker ∷ [])) refl
+        (only_sends q w n _ _ _ _ (carries_each slot (Known n bag) (asker ∷ [])) refl
         (λ x g. chosen_extends g
         (inv.records n slot (entry.Known bag) (known_among slot records bag e))))
         tt
@@ -181,7 +173,7 @@ module _ (q : QuorumSystem) (laws : AreQuorums q) (w : Network) (inv : Kept q w)
     voters_chosen vote u e =
         let voters : List ℕ = voters_for vote (bodies_of slot now.heard) in
         let f = given_if (q.is_quorum voters) vote.bag u e in
-        subst (IsChosen q w slot) f.1 (record {
+        rw (← f.1) (record {
           ballot = vote.ballot;
           chosen = record {
             voters = voters;
@@ -233,7 +225,7 @@ module _ (q : QuorumSystem) (laws : AreQuorums q) (w : Network) (inv : Kept q w)
     follows_own : (o : Option Vote) (bag : BagId)
         → bag_of o (deposit_of slot records) ≡ Some bag → SatisfiesP2c w n slot o bag
     follows_own None bag e = deposit_among slot records bag e
-    follows_own (Some u) bag e = some_same e
+    follows_own (Some u) bag e = cc
 
     follows_extends : (x : Network) (o : Option Vote) (bag : BagId) → Extends w x n None
         → SatisfiesP2c w n slot o bag → SatisfiesP2c x n slot o bag
@@ -254,16 +246,11 @@ module _ (q : QuorumSystem) (laws : AreQuorums q) (w : Network) (inv : Kept q w)
 
       -- what counts is now gathered
       now_gathered : gathered slot c now.heard ≡ ps
-      now_gathered =
-          ap (λ (b : Body). gathered slot c (old.heard ++ record { slot = slot; body = b } ∷ []))
-          is_body
-          ∙ gathered_promise slot c old.heard k prior cur.within
+      now_gathered = rw is_body (gathered_promise slot c old.heard k prior cur.within)
 
       promise_heard : (r : PromiseFrom) → Has r ps
           → Has (promise_message slot r.site c.ballot r.prior) now.heard
-      promise_heard r h =
-          gathered_heard slot c now.heard r
-          (subst (λ (rs : List PromiseFrom). Has r rs) (sym now_gathered) h)
+      promise_heard r h = gathered_heard slot c now.heard r (rw now_gathered h)
 
       proposed_deed : q.is_quorum (promisers ps) ≡ true
           → q.is_quorum (promisers (gathered slot c old.heard)) ≡ false
@@ -273,9 +260,7 @@ module _ (q : QuorumSystem) (laws : AreQuorums q) (w : Network) (inv : Kept q w)
         slot = slot;
         body = Accept vote;
         sound =
-            only_sends q w n (MayDeposit input) slot (Accept vote)
-            (to_each slot (Accept vote) q.members)
-            (carries_each slot (Accept vote) q.members) (ap Some cur.own)
+            only_sends q w n _ _ _ _ (carries_each slot (Accept vote) q.members) (ap Some cur.own)
             (λ x g. record { says = proposes x g; own = cur.own; unsent = unsent });
         recalls =
             hears_recalls q w n old laws (inv.volatiles n) m sent member None slot (Accept vote)
@@ -292,9 +277,7 @@ module _ (q : QuorumSystem) (laws : AreQuorums q) (w : Network) (inv : Kept q w)
           proposes : (x : Network) → Extends w x n None
               → Proposes q x slot (vote_for c.ballot bag)
           proposes x g = record {
-            issued =
-                subst (λ (j : ℕ). OnRecord x j slot (entry.Round c.ballot.round)) (sym cur.own)
-                (g.keeps n slot _ cur.issued);
+            issued = rw cur.own (g.keeps n slot _ cur.issued);
             backed = record {
               promises = ps;
               quorum = quorum;
@@ -316,14 +299,8 @@ module _ (q : QuorumSystem) (laws : AreQuorums q) (w : Network) (inv : Kept q w)
               → IsNew slot (Accept (vote_for c.ballot bag)) j f.ballot u
               → q.is_quorum (promisers (gathered j f now.heard)) ≡ true
           fine j f u g i =
-              let same : c ≡ f =
-              some_same (sym is_current
-              ∙ subst (λ (s : SlotName). old.current s ≡ Some f) (sym i.slot_is) g) in
-              subst (λ (y : Current). q.is_quorum (promisers (gathered j y now.heard)) ≡ true) same
-              (subst (λ (s : SlotName). q.is_quorum (promisers (gathered s c now.heard)) ≡ true)
-              i.slot_is
-              (subst (λ (rs : List PromiseFrom). q.is_quorum (promisers rs) ≡ true)
-              (sym now_gathered) quorum))
+              let same : c ≡ f = cc (is_current, g, i.slot_is) in
+              rw (← i.slot_is, ← same, now_gathered) quorum
 
     proposing_deed : (b : BallotNumber) (k : ℕ) (prior : Option Vote) → body ≡ Promise k b prior
         → (o : Option BagId)
@@ -332,7 +309,7 @@ module _ (q : QuorumSystem) (laws : AreQuorums q) (w : Network) (inv : Kept q w)
     proposing_deed b k prior e None is = quiet_deed
     proposing_deed b k prior e (Some bag) is =
         let y = is bag refl in
-        subst (λ (b : BallotNumber). Deed q w n input (proposing q slot b (Some bag) now)) y.same
+        rw (← y.same)
         (proposed_deed y.c k prior bag (rw y.same e) y.is_current y.quorum y.unready
         (follows_own _ bag y.follows))
 
@@ -359,47 +336,30 @@ module _ (q : QuorumSystem) (laws : AreQuorums q) (w : Network) (inv : Kept q w)
       (on_body q n records old (hears old (record { slot = slot; body = body })) slot body)
   unfolding on_body
   body_deed slot (Prepare b) sent member =
-      decided_deed slot (Prepare b) sent member b.site (prepare_decision slot records b)
-      (λ sites. prepare_sound q w n _ slot sites b)
+      decided_deed _ _ sent member b.site _ (λ sites. prepare_sound q w n _ slot sites b)
   body_deed slot (Promise k b prior) sent member =
-      proposing_deed slot (Promise k b prior) sent member b k prior refl _
-      (λ bag e. ready_is slot (Promise k b prior) sent member b (record { site = k; prior = prior })
-      bag (old.current slot) refl e)
+      proposing_deed _ _ sent member b k prior refl _
+      (λ bag e. ready_is _ _ sent member b _ bag _ refl e)
   body_deed slot (Accept vote) sent member =
-      decided_deed slot (Accept vote) sent member vote.ballot.site
-      (accept_decision slot records vote)
+      decided_deed _ _ sent member vote.ballot.site _
       (λ sites. accept_sound q w n _ slot sites vote sent)
   body_deed slot (Accepted k vote) sent member =
-      learning_deed slot (Accepted k vote) sent member _
-      (λ u e. voters_chosen slot (Accepted k vote) sent member vote u
+      learning_deed _ _ sent member _
+      (λ u e. voters_chosen _ _ sent member vote u
       (unless_known_is (known_of slot records) _ u e))
-  body_deed slot (Refused k b c) sent member = quiet_deed slot (Refused k b c) sent member
-  body_deed slot (Ask k) sent member =
-      telling_deed slot (Ask k) sent member k (known_of slot records) refl
+  body_deed slot (Refused k b c) sent member = quiet_deed _ _ sent member
+  body_deed slot (Ask k) sent member = telling_deed _ _ sent member k _ refl
   body_deed slot (Known k bag) sent member =
-      learning_deed slot (Known k bag) sent member _
-      (λ u e. subst (IsChosen q w slot)
-      (some_same (unless_known_is (known_of slot records) (Some bag) u e))
-      (known_chosen sent))
-    where
-      known_chosen : WasSent w slot (Known k bag) → IsChosen q w slot bag
-      known_chosen s = inv.sent _ s.is_sent
-  body_deed slot (Deposit path) sent member = dropped_deed _
-  body_deed slot Query sent member = dropped_deed _
-  body_deed slot Recover sent member = dropped_deed _
-  body_deed slot (DepositReply k a) sent member = dropped_deed _
-  body_deed slot (QueryReply k a) sent member = dropped_deed _
+      let chosen : IsChosen q w slot bag = inv.sent _ sent.is_sent in
+      learning_deed _ _ sent member _
+      (λ u e. rw (← some_same (unless_known_is (known_of slot records) (Some bag) u e)) chosen)
+  body_deed slot body sent member = dropped_deed _
 
   -- bytes arrive that are no message, or a message that was sent
   pub arrival_deed : (o : Option Message) → ((m : Message) → o ≡ Some m → WasSent w m.slot m.body)
       → Deed q w n (Arrives o) (on_arrival q n records old o)
   unfolding on_arrival
   arrival_deed None sent = dropped_deed (Arrives None)
-  arrival_deed (Some m) sent = go (is_member q (body_from m.body)) refl
-    where
-      go : (t : Bool) → is_member q (body_from m.body) ≡ t
-          → Deed q w n (Arrives (Some m))
-          (cond t (on_body q n records old (hears old m) m.slot m.body)
-          (only_says site_lines.Dropped old))
-      go true e = body_deed m.slot m.body (sent m refl) e
-      go false e = dropped_deed (Arrives (Some m))
+  arrival_deed (Some m) sent =
+      cond_both (is_member q (body_from m.body)) _ _ (Deed q w n (Arrives (Some m)))
+      (λ e. body_deed m.slot m.body (sent m refl) e) (λ e. dropped_deed (Arrives (Some m)))

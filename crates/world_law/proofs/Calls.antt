@@ -1,8 +1,9 @@
 -- What a site does when it is called agrees with a network that is kept.
-use Rattle.std.proofs.Common.{ℕ, ◌≡◌, ◌≤◌, ◌+◌, Bool, true, false, cond, inl, inr, refl, subst}
+use Rattle.std.proofs.Common.{ℕ, ◌≡◌, ◌≤◌, ◌+◌, Bool, true, false, cond, inl, inr, refl}
 use Rattle.std.proofs.Common.{List, [], ◌∷◌, length, Option, None, Some, arith}
 use Rattle.std.specs.Prelude.{Result, Ok, Err}
 use Rattle.std.specs.Bool.{nat_lt}
+use Rattle.std.proofs.lemmas.Bool.{cond_both}
 use Rattle.fed_types.specs.declared.bag_id.BagId.{BagId}
 use Rattle.fed_types.specs.Ballots.{BallotNumber}
 use Rattle.fed_types.specs.Limits.{greatest_round}
@@ -18,19 +19,18 @@ use Rattle.records.proofs.Bounds.{used_bounds}
 use Rattle.dgram.specs.declared.body.Body.TheVariants.{Prepare, Accept, Ask}
 use Rattle.proposer.specs.Proposals.{Current, last_round, next_ballot}
 use Rattle.proposer.specs.VolatileStates.{VolatileState, with_current}
-use Rattle.site.specs.declared.answer.Line.TheVariants as site_lines
 use Rattle.site.specs.declared.fault.SiteFault.{SiteFault}
 use Rattle.site.specs.declared.fault.SiteFault.TheVariants as faults
 use Rattle.site.specs.Calls.{Input, Deposits, Proposes, Recovers, Asks, registering, on_deposit}
 use Rattle.site.specs.Calls.{begins_ballot, begins_next, begins_ballot_if, on_propose}
 use Rattle.site.specs.Calls.{recovers_if, on_recover, on_ask}
-use Rattle.site.specs.Effects.{to_each, record_of, refuses}
+use Rattle.site.specs.Effects.{record_of, refuses}
 use Rattle.world_law.specs.Laws.{WasSent}
 use Rattle.world_law.specs.Networks.{Network, volatile_in}
 use Rattle.world_law.proofs.Kept as facts
 use Rattle.world_law.proofs.Kept.{vote_for, IsCurrent, Kept}
 use Rattle.world_law.proofs.Step.{Extends, Splits, reports_nothing, reports_plain}
-use Rattle.world_law.proofs.Deeds.{MayDeposit, Deed, some_same, sent_extends, carries_each}
+use Rattle.world_law.proofs.Deeds.{Deed, some_same, sent_extends, carries_each}
 use Rattle.world_law.proofs.Deeds.{only_sends, keeps_one, not_new}
 use Rattle.world_law.proofs.Arrivals.{still_deed, says_deed}
 
@@ -51,15 +51,12 @@ module _ (q : QuorumSystem) (laws : AreQuorums q) (w : Network) (inv : Kept q w)
         → Deed q w n (Deposits slot (Ok bag)) (registering slot own bag fault before)
     registering_deed own bag (Some fault) = refuses_deed (Deposits slot (Ok bag)) fault
     registering_deed None bag None =
-        still_deed q laws w inv n (Deposits slot (Ok bag)) _ []
-        (Ok (Some (site_lines.Registered bag)))
-        slot (Ask n) (reports_plain _ refl)
-        (keeps_one q w n (MayDeposit (Deposits slot (Ok bag))) slot (entry.Deposit bag) (Ask n) []
+        still_deed q laws w inv n _ _ _ _ slot (Ask n) (reports_plain _ refl)
+        (keeps_one q w n _ slot (entry.Deposit bag) _ _
         (λ e h. absurd (has_none h)) refl (λ x g. (refl, refl)) (λ x g. tt))
         tt
     registering_deed (Some u) bag None =
-        says_deed q laws w inv n (Deposits slot (Ok bag)) (Ok (Some (site_lines.Registered bag)))
-        (reports_plain _ refl)
+        says_deed q laws w inv n _ _ (reports_plain _ refl)
 
     pub deposit_deed : (checked : Result BagId BagFault)
         → Deed q w n (Deposits slot checked) (on_deposit records before slot checked)
@@ -104,9 +101,7 @@ module _ (q : QuorumSystem) (laws : AreQuorums q) (w : Network) (inv : Kept q w)
           go : (t : Bool) → same_slot slot k ≡ t → cond t (Some new) (before.current k) ≡ Some c
               → IsCurrent q x n k before.heard c
           go true e f =
-              subst (λ (c : Current). IsCurrent q x n k before.heard c) (some_same f)
-              (subst (λ (k : SlotName). IsCurrent q x n k before.heard new)
-              ((same_slot_decides slot k).0 e) at_slot)
+              rw (← some_same f, ← (same_slot_decides slot k).0 e) at_slot
           go false e f =
               let old = (inv.volatiles n).current k c f in
               record {
@@ -124,8 +119,7 @@ module _ (q : QuorumSystem) (laws : AreQuorums q) (w : Network) (inv : Kept q w)
         slot = slot;
         body = Prepare b;
         sound =
-            keeps_one q w n (MayDeposit input) slot (entry.Round b.round) (Prepare b)
-            (to_each slot (Prepare b) q.members) (carries_each slot (Prepare b) q.members) refl
+            keeps_one q w n _ slot _ _ _ (carries_each slot (Prepare b) q.members) refl
             (λ x g. tt) (λ x g. tt);
         recalls = record {
           recalls = λ x g splits. record {
@@ -142,26 +136,19 @@ module _ (q : QuorumSystem) (laws : AreQuorums q) (w : Network) (inv : Kept q w)
         → Deed q w n input
         (begins_next q slot (next_ballot n slot records before.heard) before)
     unfolding next_ballot
-    next_deed input = go (nat_lt (last_round slot records before.heard) greatest_round)
-      where
-        round : ℕ
-        round = last_round slot records before.heard
-
-        go : (t : Bool)
-            → Deed q w n input
-            (begins_next q slot (cond t (Some (record { round = 1 + round; site = n })) None)
-            before)
-        go true = issuing_deed input round (omega arith)
-        go false = refuses_deed input faults.RoundsSpent
+    next_deed input =
+        let round : ℕ = last_round slot records before.heard in
+        cond_both (nat_lt round greatest_round) (Some (record { round = 1 + round; site = n })) None
+        (λ (next : Option BallotNumber). Deed q w n input (begins_next q slot next before))
+        (λ e. issuing_deed input round (omega arith)) (λ e. refuses_deed input faults.RoundsSpent)
 
     -- ---- a proposal
 
     proposing_deed : (known own : Option BagId)
         → Deed q w n (Proposes slot)
         (begins_ballot_if q slot known own (next_ballot n slot records before.heard) before)
-    proposing_deed (Some bag) own = refuses_deed (Proposes slot) faults.AlreadyKnown
-    proposing_deed None None = refuses_deed (Proposes slot) faults.NoDeposit
     proposing_deed None (Some bag) = next_deed (Proposes slot)
+    proposing_deed known own = refuses_deed (Proposes slot) _
 
     pub propose_deed : Deed q w n (Proposes slot) (on_propose q n records before slot)
     unfolding on_propose
@@ -172,9 +159,8 @@ module _ (q : QuorumSystem) (laws : AreQuorums q) (w : Network) (inv : Kept q w)
     recovering_deed : (known : Option BagId) (has : Bool)
         → Deed q w n (Recovers slot)
         (recovers_if q slot known has (next_ballot n slot records before.heard) before)
-    recovering_deed (Some bag) has = refuses_deed (Recovers slot) faults.AlreadyKnown
-    recovering_deed None false = refuses_deed (Recovers slot) faults.NothingToRecover
     recovering_deed None true = next_deed (Recovers slot)
+    recovering_deed known has = refuses_deed (Recovers slot) _
 
     pub recover_deed : Deed q w n (Recovers slot) (on_recover q n records before slot)
     unfolding on_recover
@@ -184,8 +170,5 @@ module _ (q : QuorumSystem) (laws : AreQuorums q) (w : Network) (inv : Kept q w)
     pub ask_deed : (member : ℕ) → Deed q w n (Asks slot member) (on_ask n before slot member)
     unfolding on_ask
     ask_deed member =
-        still_deed q laws w inv n (Asks slot member) None _ (Ok None) slot (Ask n) reports_nothing
-        (only_sends q w n (MayDeposit (Asks slot member)) slot (Ask n)
-        (to_each slot (Ask n) (member ∷ []))
-        (carries_each slot (Ask n) (member ∷ [])) refl (λ x g. tt))
-        tt
+        still_deed q laws w inv n _ _ _ _ _ _ reports_nothing
+        (only_sends q w n _ _ _ _ (carries_each slot (Ask n) (member ∷ [])) refl (λ x g. tt)) tt

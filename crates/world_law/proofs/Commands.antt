@@ -1,7 +1,8 @@
 -- A command changes no site, or is skipped, or is one event of the network, or is a pump.
-use Rattle.std.proofs.Common.{ℕ, ◌≡◌, ◌≢◌, Bool, true, false, cond, refl, List, [], ◌∷◌, ◌++◌}
+use Rattle.std.proofs.Common.{ℕ, ◌≡◌, ◌≢◌, true, refl, List, [], ◌∷◌, ◌++◌}
 use Rattle.std.proofs.Common.{Option, None, Some, inl, sym}
 use Rattle.std.specs.Prelude.{Result, Ok, Err}
+use Rattle.std.proofs.lemmas.Bool.{cond_both}
 use Rattle.fed_types.specs.declared.bag_id.BagId.{BagId}
 use Rattle.fed_types.specs.Slots.{SlotName}
 use Rattle.bag_tree.specs.declared.fault.TreeFault.{TreeFault}
@@ -22,7 +23,7 @@ use Rattle.lines.specs.declared.line.Line.TheVariants as lines
 use Rattle.lines.specs.declared.line.Reason.{Reason}
 use Rattle.lines.specs.declared.line.Reason.TheVariants as reasons
 use Rattle.world_law.specs.Headline.{IsValidDeposit}
-use Rattle.world_law.specs.Networks.{Mode, Up, Down, NeedsOpening, Event, Deposit, Propose}
+use Rattle.world_law.specs.Networks.{Mode, Up, Down, Event, Deposit, Propose}
 use Rattle.world_law.specs.Networks.{Recover, Ask, Query, Deliver, Raw, Stop, Start, datagram_at}
 use Rattle.lines.specs.Named.{SeenBag}
 use Rattle.world_law.specs.Trees.{NumberedTree, tree_at}
@@ -61,17 +62,14 @@ module _ (w : World) (number : ℕ) (P : World → Type 0) where
   module _ (changed : Changed) (skipped : Skipped) where
     at_member_is : (site : ℕ) (x : World) → (is_member w site ≡ true → P x)
         → P (at_member w number site x)
-    at_member_is site x h = go (is_member w site) refl
-      where
-        go : (t : Bool) → is_member w site ≡ t → P (cond t x (skips w number reasons.Site))
-        go true e = h e
-        go false e = skipped w.named reasons.Site
+    at_member_is site x h =
+        cond_both (is_member w site) x (skips w number reasons.Site) P h
+        (λ e. skipped w.named reasons.Site)
 
     unless_down_is : (named : List ℕ) (mode : Mode) (x : World) → (mode ≢ Down → P x)
         → P (unless_down (record w { named = named }) number mode x)
-    unless_down_is named (Up volatile) x h = h (λ e. cc)
-    unless_down_is named NeedsOpening x h = h (λ e. cc)
     unless_down_is named Down x h = skipped named reasons.Down
+    unless_down_is named mode x h = h (λ e. cc)
 
     -- ---- deliveries
 
@@ -143,8 +141,7 @@ module _ (w : World) (number : ℕ) (P : World → Type 0) where
       start_is : (site : ℕ) (mode : Mode) → P (on_start w number site mode)
       unfolding on_start
       start_is site (Up volatile) = skipped w.named reasons.Up
-      start_is site NeedsOpening = starts site
-      start_is site Down = starts site
+      start_is site mode = starts site
 
     module _ (site tree : ℕ) (slot : SlotName) (fate : Fate) where
       abbrev deposit : Option Command

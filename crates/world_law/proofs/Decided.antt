@@ -1,7 +1,7 @@
 -- What an acceptor decides agrees with a network that is kept.
-use Rattle.std.proofs.Common.{ℕ, ◌≡◌, Bool, true, false, cond, ◌||◌, inl, inr, refl, subst}
+use Rattle.std.proofs.Common.{ℕ, ◌≡◌, Bool, true, false, cond, ◌||◌, inl, inr, refl}
 use Rattle.std.proofs.Common.{List, Option, None, Some}
-use Rattle.std.proofs.lemmas.Bool.{and_parts}
+use Rattle.std.proofs.lemmas.Bool.{and_parts, cond_both}
 use Rattle.fed_types.specs.declared.vote.Vote.{Vote}
 use Rattle.fed_types.specs.Bags.{same_bag}
 use Rattle.fed_types.specs.Ballots.{BallotNumber, below, Below, same_ballot}
@@ -14,7 +14,7 @@ use Rattle.records.specs.declared.record.Record.{Record}
 use Rattle.records.specs.Bounds.{AtLeast}
 use Rattle.records.specs.SlotStates.{promised_of, vote_of}
 use Rattle.records.proofs.Bounds.{promised_bounds, vote_bounds, vote_among}
-use Rattle.dgram.specs.declared.body.Body.TheVariants.{Promise, Accept, Accepted, Refused}
+use Rattle.dgram.specs.declared.body.Body.TheVariants.{Accept}
 use Rattle.acceptor.specs.declared.decision.Decision.{Decision}
 use Rattle.acceptor.specs.Decisions.{promises, votes, votes_again, refuses, on_prepare}
 use Rattle.acceptor.specs.Decisions.{is_in_ballot}
@@ -56,8 +56,7 @@ module _ (q : QuorumSystem) (w : Network) (n : ℕ) (D : Deposits) (slot : SlotN
   refused : (sites : List ℕ) (asked standing : BallotNumber)
       → DecisionSound sites (refuses asked standing)
   refused sites asked standing =
-      only_sends q w n D slot (Refused n asked standing)
-      (to_each slot (Refused n asked standing) sites) (carries_each slot _ sites) refl (λ x g. tt)
+      only_sends q w n D _ _ _ (carries_each slot _ sites) refl (λ x g. tt)
 
   abbrev IsPromised : Option BallotNumber → Type 0
   IsPromised o = promised_of slot records ≡ o
@@ -90,8 +89,7 @@ module _ (q : QuorumSystem) (w : Network) (n : ℕ) (D : Deposits) (slot : SlotN
   promise_given : (sites : List ℕ) (b : BallotNumber) → AllBelow b
       → DecisionSound sites (promises b (vote_of slot records))
   promise_given sites b lower =
-      keeps_one q w n D slot (entry.Promise b) (Promise n b (vote_of slot records))
-      (to_each slot (Promise n b (vote_of slot records)) sites) (carries_each slot _ sites) refl
+      keeps_one q w n D slot _ _ _ (carries_each slot _ sites) refl
       (λ x g. tt)
       (λ x g. record {
         kept = g.added _ refl;
@@ -115,15 +113,11 @@ module _ (q : QuorumSystem) (w : Network) (n : ℕ) (D : Deposits) (slot : SlotN
       → DecisionSound sites (on_prepare o (vote_of slot records) b)
   on_prepare_sound sites b None e =
       promise_given sites b (all_below None e b (λ c f. absurd (cc f)))
-  on_prepare_sound sites b (Some p) e = go (below p b) refl
-    where
-      go : (t : Bool) → below p b ≡ t
-          → DecisionSound sites (cond t (promises b (vote_of slot records)) (refuses b p))
-      go true f =
-          promise_given sites b
-          (all_below (Some p) e b
-          (λ c g. subst (λ (c : BallotNumber). Below c b) (some_same g) (below_is p b f)))
-      go false f = refused sites b p
+  on_prepare_sound sites b (Some p) e =
+      cond_both (below p b) (promises b (vote_of slot records)) (refuses b p) (DecisionSound sites)
+      (λ f. promise_given sites b
+      (all_below (Some p) e b (λ c g. rw (← some_same g) (below_is p b f))))
+      (λ f. refused sites b p)
 
   pub prepare_sound : (sites : List ℕ) (b : BallotNumber)
       → DecisionSound sites (prepare_decision slot records b)
@@ -138,8 +132,7 @@ module _ (q : QuorumSystem) (w : Network) (n : ℕ) (D : Deposits) (slot : SlotN
   vote_sound : (sites : List ℕ) (asked : Vote) → WasSent w slot (Accept asked)
       → NoneAbove asked.ballot → DecisionSound sites (votes asked)
   vote_sound sites asked sent above =
-      keeps_one q w n D slot (entry.Vote asked) (Accepted n asked)
-      (to_each slot (Accepted n asked) sites) (carries_each slot _ sites) refl
+      keeps_one q w n D slot _ _ _ (carries_each slot _ sites) refl
       (λ x g. record { asked = sent_extends g sent; above = above }) (λ x g. g.added _ refl)
 
   none_above : (o : Option BallotNumber) → IsPromised o → (b : BallotNumber)
@@ -168,8 +161,7 @@ module _ (q : QuorumSystem) (w : Network) (n : ℕ) (D : Deposits) (slot : SlotN
       go false false f =
           vote_sound sites asked sent
           (none_above (Some p) e asked.ballot
-          (λ c g. subst (λ (c : BallotNumber). ¬ Below asked.ballot c) (some_same g)
-          (below_not asked.ballot p f)))
+          (λ c g. rw (← some_same g) (below_not asked.ballot p f)))
 
   same_vote_is : (asked : Vote) (o : Option Vote) → is_vote asked o ≡ true → o ≡ Some asked
   same_vote_is asked None e = absurd (cc e)
@@ -182,16 +174,10 @@ module _ (q : QuorumSystem) (w : Network) (n : ℕ) (D : Deposits) (slot : SlotN
   pub accept_sound : (sites : List ℕ) (asked : Vote) → WasSent w slot (Accept asked)
       → DecisionSound sites (accept_decision slot records asked)
   unfolding accept_decision
-  accept_sound sites asked sent = go (is_vote asked (vote_of slot records)) refl
-    where
-      again : vote_of slot records ≡ Some asked → DecisionSound sites (votes_again asked)
-      again e =
-          only_sends q w n D slot (Accepted n asked) (to_each slot (Accepted n asked) sites)
-          (carries_each slot _ sites) refl
-          (λ x g. g.keeps n slot _ (vote_among slot records asked e))
-
-      go : (t : Bool) → is_vote asked (vote_of slot records) ≡ t
-          → DecisionSound sites (cond t (votes_again asked)
-          (on_new_accept (promised_of slot records) (vote_of slot records) asked))
-      go true f = again (same_vote_is asked (vote_of slot records) f)
-      go false f = on_new_accept_sound sites asked sent (promised_of slot records) refl
+  accept_sound sites asked sent =
+      cond_both (is_vote asked (vote_of slot records)) (votes_again asked)
+      (on_new_accept (promised_of slot records) (vote_of slot records) asked) (DecisionSound sites)
+      (λ f. only_sends q w n D _ _ _ (carries_each slot _ sites) refl
+      (λ x g. g.keeps n slot _
+      (vote_among slot records asked (same_vote_is asked (vote_of slot records) f))))
+      (λ f. on_new_accept_sound sites asked sent (promised_of slot records) refl)

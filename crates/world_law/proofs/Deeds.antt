@@ -98,7 +98,7 @@ module _ (q : QuorumSystem) (w : Network) (n : ℕ) (D : Deposits) where
     each = each;
     own = own;
     entry = λ r f x g.
-        subst (λ (r : Record). NewEntry q w x n D r.slot r.body) (some_same f) (entry x g);
+        rw (← some_same f) (entry x g);
     says = says;
   }
 
@@ -121,13 +121,11 @@ module _ (q : QuorumSystem) (w : Network) (n : ℕ) (old : VolatileState) where
     recalls = λ x e splits. record {
       heard = λ f h. elim (has_cases old.heard (m ∷ []) h) [
         | inl before ↦ sent_extends e (r.heard f before)
-        | inr new ↦
-            subst (λ (y : Message). WasSent x y.slot y.body) (has_one new) (sent_extends e sent)
+        | inr new ↦ rw (← has_one new) (sent_extends e sent)
       ];
       members = λ f h. elim (has_cases old.heard (m ∷ []) h) [
         | inl before ↦ r.members f before
-        | inr new ↦
-            subst (λ (y : Message). is_member q (body_from y.body) ≡ true) (has_one new) member
+        | inr new ↦ rw (← has_one new) member
       ];
       current = λ k c f.
           let was = r.current k c f in

@@ -1,6 +1,6 @@
 -- The reference run at work: whole schedules, computed.
-use Rattle.std.proofs.Common.{ℕ, ◌≡◌, refl, List, [], ◌∷◌, ◌++◌, Option, None, Some, map, length}
-use Rattle.std.proofs.Common.{replicate, filter_map}
+use Rattle.std.proofs.Common.{ℕ, ◌≡◌, List, [], ◌∷◌, ◌++◌, Option, None, Some, map, length}
+use Rattle.std.proofs.Common.{replicate, filter_map, rules}
 use Rattle.std.specs.Prelude.{Ok}
 use Rattle.sha2.specs.Sha256.{sha256, digest_bytes}
 use Rattle.fed_types.specs.declared.bag_id.BagId.{BagId}
@@ -20,9 +20,8 @@ use Rattle.dgram.specs.Heard.{bodies_of, promises_for, promisers, priors, voters
 use Rattle.acceptor.specs.Decisions.{prepare_decision, accept_decision}
 use Rattle.learner.specs.LearnedBags.{chosen_by}
 use Rattle.proposer.specs.Proposals.{next_ballot, gathered, highest_prior, proposal}
-use Rattle.proposer.specs.VolatileStates.{VolatileState, new_volatile}
-use Rattle.proposer.specs.VolatileStates.{hears, with_current, promise_message}
-use Rattle.proposer.specs.VolatileStates.{refusal_message}
+use Rattle.proposer.specs.VolatileStates.{VolatileState, new_volatile, hears, with_current}
+use Rattle.proposer.specs.VolatileStates.{promise_message, refusal_message}
 use Rattle.site.specs.declared.fault.SiteFault.TheVariants as faults
 use Rattle.site.specs.Arrivals.{on_body, on_arrival}
 use Rattle.site.specs.Calls.{on_deposit, on_propose, on_ask, reply_of}
@@ -39,8 +38,7 @@ use Rattle.lines.specs.declared.line.Line.TheVariants as lines
 use Rattle.lines.specs.declared.line.NamedBag.{NamedBag}
 use Rattle.site.specs.declared.answer.Reply.TheVariants as replies
 use Rattle.lines.specs.declared.line.Reason.TheVariants as reasons
-use Rattle.world_law.specs.Networks.{Up, new_site, new_network, outcome, happens, run, Ask}
-use Rattle.world_law.specs.Networks.{Deliver}
+use Rattle.world_law.specs.Networks.{Up, new_site, new_network, outcome, happens, run, Ask, Deliver}
 use Rattle.lines.specs.Named.{first_tree}
 use Rattle.world_law.specs.Trees.{tree_at, put_tree}
 use Rattle.world_law.specs.Worlds.{World, new_world, sent_lines, after_event, on_tree, on_folder}
@@ -329,31 +327,4 @@ unfolding ballot_cmp is_in sites_to same_slot encoded checksum sha256 digest_byt
     tree_at put_tree first_tree new_world sent_lines after_event on_tree on_folder on_added on_file
     on_deposited on_datagram on_deliver on_call on_raw numbers_to on_turn pumped on_start
     after_command fault_of_added run
-all = record {
-  three_sites_agree = refl;
-  eighteen_datagrams = refl;
-  one_site = refl;
-  half_of_four = refl;
-  three_of_four = refl;
-  heavy_member = refl;
-  light_members = refl;
-  stranger = refl;
-  prior_wins = refl;
-  highest_wins = refl;
-  one_promise_thrice = refl;
-  older_promises = refl;
-  early_promise = (refl, refl);
-  lost_vote = refl;
-  kept_vote = refl;
-  torn_vote = refl;
-  duel = refl;
-  asked_after_a_restart = refl;
-  failed_commit = refl;
-  two_of_three = (refl, refl);
-  sent_lines_too = refl;
-  refusal_raises_the_round = refl;
-  pump_ends = refl;
-  skipped_is_named = refl;
-  bytes = refl;
-  trees = refl;
-}
+all = search rules

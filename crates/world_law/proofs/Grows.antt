@@ -9,9 +9,7 @@ use Rattle.fed_types.specs.Slots.{SlotName}
 use Rattle.records.specs.declared.entry.Entry.{Entry}
 use Rattle.records.specs.declared.entry.Entry.TheVariants as entry
 use Rattle.dgram.specs.declared.body.Body.{Body}
-use Rattle.dgram.specs.declared.body.Body.TheVariants.{Prepare, Promise, Accept, Accepted, Refused}
-use Rattle.dgram.specs.declared.body.Body.TheVariants.{Ask, Known, Deposit, Query, Recover}
-use Rattle.dgram.specs.declared.body.Body.TheVariants.{DepositReply, QueryReply}
+use Rattle.dgram.specs.declared.body.Body.TheVariants.{Promise, Accept, Accepted, Known}
 use Rattle.dgram.specs.Heard.{promisers}
 use Rattle.proposer.specs.Proposals.{Current, gathered}
 use Rattle.proposer.specs.VolatileStates.{VolatileState}
@@ -98,26 +96,17 @@ module _ {w x : Network} (g : Grows w x) where
 
   pub says_grows : (q : QuorumSystem) (slot : SlotName) (body : Body)
       → Says q w slot body → Says q x slot body
-  says_grows q slot (Prepare b) s = s
   says_grows q slot (Promise n b prior) s = promises_grows s
   says_grows q slot (Accept vote) s = proposes_grows s
   says_grows q slot (Accepted n vote) s = g.kept n slot _ s
-  says_grows q slot (Refused n b c) s = s
-  says_grows q slot (Ask n) s = s
   says_grows q slot (Known n bag) s = chosen_grows s
-  says_grows q slot (Deposit path) s = s
-  says_grows q slot Query s = s
-  says_grows q slot Recover s = s
-  says_grows q slot (DepositReply n answer) s = s
-  says_grows q slot (QueryReply n answer) s = s
+  says_grows q slot body s = s
 
   pub means_grows : (q : QuorumSystem) (slot : SlotName) (e : Entry)
       → Means q w slot e → Means q x slot e
-  means_grows q slot (entry.Deposit bag) s = s
-  means_grows q slot (entry.Round round) s = s
-  means_grows q slot (entry.Promise ballot) s = s
   means_grows q slot (entry.Vote vote) s = sent_grows s
   means_grows q slot (entry.Known bag) s = chosen_grows s
+  means_grows q slot e s = s
 
   -- what a site remembers stays so while no new proposal is in a ballot that is current there, but
   -- one of a quorum

@@ -1,7 +1,7 @@
 -- What was heard, as the laws need it: what was gathered was heard, and the highest vote that
 -- promises name.
-use Rattle.std.proofs.Common.{◌≡◌, ◌≤◌, ℕ, refl, sym, ap, subst, ◌∙◌, List, [], ◌∷◌, ◌++◌}
-use Rattle.std.proofs.Common.{length, map, drop, Option, None, Some}
+use Rattle.std.proofs.Common.{◌≡◌, ◌≤◌, ℕ, refl, ap, subst, ◌∙◌, List, [], ◌∷◌, ◌++◌}
+use Rattle.std.proofs.Common.{length, drop, Option, None, Some}
 use Rattle.fed_types.specs.declared.vote.Vote.{Vote}
 use Rattle.fed_types.specs.Ballots.{Below}
 use Rattle.fed_types.specs.Lists.{Has}
@@ -15,8 +15,7 @@ use Rattle.records.specs.SlotStates.{if_some}
 use Rattle.records.proofs.Highest.{highest_is}
 use Rattle.dgram.specs.declared.body.Body.TheVariants.{Promise}
 use Rattle.dgram.specs.declared.message.Message.{Message}
-use Rattle.dgram.specs.Heard.{body_in, bodies_of, PromiseFrom, promise_in, promisers}
-use Rattle.dgram.specs.Heard.{priors}
+use Rattle.dgram.specs.Heard.{body_in, bodies_of, PromiseFrom, promise_in, promisers, priors}
 use Rattle.dgram.proofs.Heard.{has_message, has_promise}
 use Rattle.proposer.specs.Proposals.{Current, gathered, highest_prior}
 use Rattle.world_law.specs.Laws.{IsNamed, IsHighestPrior}
@@ -43,8 +42,7 @@ gathered_stays slot c heard m within n h =
     let more : Has f.0 (gathered slot c (heard ++ m ∷ [])) =
     rw (gathered-push slot c heard m within)
     (has_left (one_of (if_some (promise_in c.ballot) (body_in slot m))) f.1) in
-    subst (λ (k : ℕ). Has k (map (λ (p : PromiseFrom). p.site) (gathered slot c (heard ++ m ∷ []))))
-    f.2 (map_has (λ (p : PromiseFrom). p.site) more)
+    rw (← f.2) (map_has (λ (p : PromiseFrom). p.site) more)
 
 -- one promise more for the current ballot
 pub gathered_promise : (slot : SlotName) (c : Current) (heard : List Message) (from : ℕ)
@@ -89,10 +87,8 @@ same_vote e = cc
 -- the same, in the words of the laws
 pub prior_of : (promises : List PromiseFrom) (o : Option Vote) → IsBest promises o
     → IsHighestPrior promises o
-prior_of promises None h = λ vote n. absurd (none (h.bounds n.promise vote n.among n.names))
-  where
-    none : {vote : Vote} → AtLeast (λ (v : Vote). v.ballot) None vote → ⊥
-    none a = let e = a.is in cc
+prior_of promises None h = λ vote n.
+    let a = h.bounds n.promise vote n.among n.names in absurd (cc a.is)
 prior_of promises (Some highest) h = record {
   named = h.named highest refl;
   none_higher = λ vote n. below vote (h.bounds n.promise vote n.among n.names);
@@ -100,8 +96,7 @@ prior_of promises (Some highest) h = record {
   where
     below : (vote : Vote) → AtLeast (λ (v : Vote). v.ballot) (Some highest) vote
         → ¬ Below highest.ballot vote.ballot
-    below vote a =
-        subst (λ (v : Vote). ¬ Below v.ballot vote.ballot) (sym (same_vote a.is)) a.at_least
+    below vote a = rw (same_vote a.is) a.at_least
 
 pub best_of : (promises : List PromiseFrom) (o : Option Vote) → IsHighestPrior promises o
     → IsBest promises o

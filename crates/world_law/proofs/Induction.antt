@@ -54,12 +54,11 @@ shared : {q : QuorumSystem} {w : Network} {slot : SlotName} {vote later : Vote} 
 shared {q} {w} {slot} {vote} {later} laws inv chosen backed =
     let both = laws.meet _ _ backed.quorum chosen.quorum in
     let s = promiser_of both.0 backed.promises both.2 in
-    let voted : OnRecord w s.0.site slot (entry.Vote vote) = rw s.2 (chosen.voted both.0 both.3) in
     record {
       p = s.0;
       among = s.1;
       promises = promise_says inv (backed.sent s.0 s.1);
-      voted = voted;
+      voted = rw s.2 (chosen.voted both.0 both.3);
     }
 
 -- a site that promised c has this vote as its highest below c
@@ -129,8 +128,7 @@ carried_step q w slot vote laws inv chosen c before lower u asked =
         elim (at_most_cases vote.ballot h.ballot later) [
           | inl e ↦
               inv.one slot h.ballot h.bag vote.bag again
-              (subst (λ (b : BallotNumber). WasSent w slot (Accept (vote_for b vote.bag))) e
-              (asked_in laws inv chosen))
+              (rw (← e) (asked_in laws inv chosen))
           | inr k ↦ before h.ballot named.says.lower k h.bag again
         ]
 
@@ -164,7 +162,7 @@ chosen_once q w laws inv slot u v c d = go (Below-cases c.ballot d.ballot)
         second l)
     go (inr (inl e)) =
         inv.one slot d.ballot u v
-        (subst (λ (b : BallotNumber). WasSent w slot (Accept (vote_for b u))) e first) second
+        (rw (← e) first) second
     go (inr (inr l)) =
         later_carried q w slot (vote_for d.ballot v) (vote_for c.ballot u) laws inv d.chosen
         first l

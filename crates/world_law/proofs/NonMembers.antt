@@ -1,6 +1,6 @@
 -- A site that is no member stays as it is.
-use Rattle.std.proofs.Common.{ℕ, ◌≡◌, ◌≢◌, Bool, true, false, cond, refl, sym, ap, ◌∙◌}
-use Rattle.std.proofs.Common.{[], Option, None, Some}
+use Rattle.std.proofs.Common.{ℕ, ◌≡◌, ◌≢◌, false, refl, [], Option, None, Some}
+use Rattle.std.proofs.lemmas.Bool.{cond_both}
 use Rattle.fed_types.specs.Lists.{is_in}
 use Rattle.fed_types.specs.Quorums.{QuorumSystem}
 use Rattle.fed_types.specs.Slots.{SlotName}
@@ -28,24 +28,14 @@ module _ (q : QuorumSystem) (w : Network) (n : ℕ) (stranger : is_in q.members 
 
     -- what happens at a member happens at another site
     member_stays : (h : Happening) → (n ≢ m → Stays h) → Stays (if_member q w m h)
-    member_stays h stays = go (is_in q.members m) refl
-      where
-        differs : is_in q.members m ≡ true → n ≢ m
-        differs member e =
-            let f : false ≡ true = sym stranger ∙ ap (λ k. is_in q.members k) e ∙ member in
-            absurd (cc f)
-
-        go : (t : Bool) → is_in q.members m ≡ t → Stays (cond t h (nothing w))
-        go true e = stays (differs e)
-        go false e = refl
+    member_stays h stays =
+        cond_both (is_in q.members m) h (nothing w) Stays
+        (λ member. stays (λ e. absurd (cc (stranger, member)))) (λ e. refl)
 
     reaches_stays : n ≢ m → (mode : Mode) (input : Input) (fate : Fate)
         → Stays (reaches q w m mode input fate)
-    reaches_stays other (Up volatile) input fate =
-        other_stays other (step q m (w.sites m) (Up volatile) input fate)
-    reaches_stays other NeedsOpening input fate =
-        other_stays other (step q m (w.sites m) NeedsOpening input fate)
     reaches_stays other Down input fate = refl
+    reaches_stays other mode input fate = other_stays other (step q m (w.sites m) mode input fate)
 
     takes_stays : (input : Input) (fate : Fate) → Stays (takes q w m input fate)
     takes_stays input fate =
@@ -53,18 +43,15 @@ module _ (q : QuorumSystem) (w : Network) (n : ℕ) (stranger : is_in q.members 
 
     replies_stays : (mode : Mode) (slot : SlotName) → Stays (replies w m mode slot)
     replies_stays (Up volatile) slot = refl
-    replies_stays NeedsOpening slot = refl
-    replies_stays Down slot = refl
+    replies_stays mode slot = refl
 
     stops_stays : n ≢ m → (mode : Mode) → Stays (stops w m mode)
-    stops_stays other (Up volatile) = other_stays other (goes_down m (w.sites m) None [])
-    stops_stays other NeedsOpening = other_stays other (goes_down m (w.sites m) None [])
     stops_stays other Down = refl
+    stops_stays other mode = other_stays other (goes_down m (w.sites m) None [])
 
     starts_stays : n ≢ m → (mode : Mode) → Stays (starts w m mode)
     starts_stays other (Up volatile) = refl
-    starts_stays other NeedsOpening = other_stays other (opened m (w.sites m))
-    starts_stays other Down = other_stays other (opened m (w.sites m))
+    starts_stays other mode = other_stays other (opened m (w.sites m))
 
   arrives_stays : (o : Option Send) (fate : Fate) → Stays (arrives q w o fate)
   arrives_stays None fate = refl

@@ -1,9 +1,9 @@
 -- What an event at a site brings about keeps the network: an effect under a fate, a reply, a stop,
 -- a start.
-use Rattle.std.proofs.Common.{ℕ, ◌≡◌, Bool, true, false, cond, inl, refl}
-use Rattle.std.proofs.Common.{ap, subst, List, [], length, take, Option, None, Some}
-use Rattle.std.proofs.Common.{append-nil, ◌∙◌}
+use Rattle.std.proofs.Common.{ℕ, ◌≡◌, Bool, true, false, cond, inl, refl, List, [], length, take}
+use Rattle.std.proofs.Common.{Option, None, Some, append-nil}
 use Rattle.std.specs.Bool.{nat_le}
+use Rattle.std.proofs.lemmas.Bool.{cond_both}
 use Rattle.fed_types.specs.Lists.{Has, is_in}
 use Rattle.fed_types.specs.Quorums.{QuorumSystem}
 use Rattle.fed_types.specs.Slots.{SlotName}
@@ -17,12 +17,11 @@ use Rattle.dgram.specs.declared.body.Body.{Body}
 use Rattle.dgram.specs.declared.body.Body.TheVariants.{Ask}
 use Rattle.proposer.specs.VolatileStates.{new_volatile}
 use Rattle.site.specs.declared.fault.SiteFault.TheVariants as faults
-use Rattle.site.specs.Calls.{Input, reply_by, reply_of}
-use Rattle.site.specs.Calls.{effect_of}
+use Rattle.site.specs.Calls.{Input, reply_by, reply_of, effect_of}
 use Rattle.site.specs.Effects.{Effect, Send, refuses}
 use Rattle.schedule.specs.declared.fate.Fate.{Fate}
 use Rattle.schedule.specs.declared.fate.Fate.TheVariants.{Whole, StopsIn, StopsAfter, FailsIn}
-use Rattle.world_law.specs.Laws.{IsChosen, Report, notice_report}
+use Rattle.world_law.specs.Laws.{notice_report}
 use Rattle.world_law.specs.Networks.{Mode, Up, Down, NeedsOpening, volatile_in, Network, Happening}
 use Rattle.lines.specs.declared.notice.Notice.{Notice}
 use Rattle.lines.specs.declared.notice.Notice.TheVariants.{Replied, Refused, GoesDown, ComesUp}
@@ -33,8 +32,7 @@ use Rattle.world_law.specs.Networks as networks
 use Rattle.world_law.proofs.Kept.{Kept}
 use Rattle.world_law.proofs.Grows.{grows_itself}
 use Rattle.world_law.proofs.Step.{moved, Deposits as Allowed, ReportsChosen, reports_nothing}
-use Rattle.world_law.proofs.Step.{reports_plain}
-use Rattle.world_law.proofs.Step.{Next, Sound, nothing_recalled, kept_moved}
+use Rattle.world_law.proofs.Step.{reports_plain, Next, Sound, nothing_recalled, kept_moved}
 use Rattle.world_law.proofs.Deeds.{MayDeposit, Deed, some_same, nothing_sent}
 
 -- some slot, for what is of none
@@ -70,40 +68,34 @@ module _ (q : QuorumSystem) (w : Network) (inv : Kept q w) where
   stays D place = said_kept D place None reports_nothing
 
   module _ (n : ℕ) (D : Allowed) where
-    -- the site loses its volatile state, with what it keeps
-    lost_kept : (kept : Option Record) (slot : SlotName) (body : Body) (sends : List Send)
-        → Sound q w n D kept slot body sends → (mode : Mode) (notice : Notice)
-        → volatile_in mode ≡ new_volatile → notice_report notice ≡ None → (some : List Send)
-        → ((d : Send) → Has d some → Has d sends)
-        → Next q w (Some n) D (moved w n kept mode some (Some notice))
-    lost_kept kept slot body sends s mode notice lost e some among =
-        kept_moved q w n kept mode some (Some notice) D slot body
-        (fewer some among s) inv (rw lost nothing_recalled) (reports_plain notice e)
+    -- the site loses its volatile state, and its notice reports nothing
+    module _ (mode : Mode) (notice : Notice) (lost : volatile_in mode ≡ new_volatile)
+        (e : notice_report notice ≡ None) where
+      -- with what it keeps
+      lost_kept : {kept : Option Record} {slot : SlotName} {body : Body} {sends : List Send}
+          → Sound q w n D kept slot body sends → (some : List Send)
+          → ((d : Send) → Has d some → Has d sends)
+          → Next q w (Some n) D (moved w n kept mode some (Some notice))
+      lost_kept s some among =
+          kept_moved q w n _ mode some (Some notice) D _ _ (fewer some among s) inv
+          (rw lost nothing_recalled) (reports_plain notice e)
 
-    -- it keeps nothing
-    idle_kept : (mode : Mode) (notice : Notice) → volatile_in mode ≡ new_volatile
-        → notice_report notice ≡ None
-        → Next q w (Some n) D (moved w n None mode [] (Some notice))
-    idle_kept mode notice lost e =
-        lost_kept None any_slot (Ask n) [] (nothing_sent q w n D any_slot) mode notice lost e []
-        (λ d h. h)
+      -- it keeps nothing
+      idle_kept : Next q w (Some n) D (moved w n None mode [] (Some notice))
+      idle_kept = lost_kept (nothing_sent q w n D any_slot) [] (λ d h. h)
 
-    -- it keeps the record, or it doesn't
-    left_kept : (r : Record) (slot : SlotName) (body : Body) (sends : List Send)
-        → Sound q w n D (Some r) slot body sends → (mode : Mode) (notice : Notice)
-        → volatile_in mode ≡ new_volatile → notice_report notice ≡ None → (t : Bool)
-        → Next q w (Some n) D (moved w n (cond t (Some r) None) mode [] (Some notice))
-    left_kept r slot body sends s mode notice lost e true =
-        lost_kept (Some r) slot body sends s mode notice lost e [] (λ d h. absurd (has_none h))
-    left_kept r slot body sends s mode notice lost e false = idle_kept mode notice lost e
+      -- it keeps the record, or it doesn't
+      left_kept : {r : Record} {slot : SlotName} {body : Body} {sends : List Send}
+          → Sound q w n D (Some r) slot body sends → (t : Bool)
+          → Next q w (Some n) D (moved w n (cond t (Some r) None) mode [] (Some notice))
+      left_kept s true = lost_kept s [] (λ d h. absurd (has_none h))
+      left_kept s false = idle_kept
 
     pub member_kept : (h : Happening) → Next q w (Some n) D h
         → Next q w (Some n) D (if_member q w n h)
-    member_kept h next = go (is_in q.members n)
-      where
-        go : (t : Bool) → Next q w (Some n) D (cond t h (nothing w))
-        go true = next
-        go false = stays D (Some n)
+    member_kept h next =
+        cond_both (is_in q.members n) h (nothing w) (Next q w (Some n) D) (λ e. next)
+        (λ e. stays D (Some n))
 
     -- what it replies as known is on its record
     pub replies_kept : (slot : SlotName) (mode : Mode)
@@ -113,17 +105,13 @@ module _ (q : QuorumSystem) (w : Network) (inv : Kept q w) where
         said_kept D (Some n) _
         (go (known_of slot (w.sites n).records) (deposit_of slot (w.sites n).records) refl)
       where
-        known : (bag : _) → known_of slot (w.sites n).records ≡ Some bag → IsChosen q w slot bag
-        known bag e =
-            inv.records n slot (entry.Known bag) (known_among slot (w.sites n).records bag e)
-
         go : (known own : _) → known_of slot (w.sites n).records ≡ known
             → ReportsChosen q w (Some (Replied n slot (reply_by known own)))
         go (Some bag) own e = record {
           chosen = λ m r f g.
-              let h : Some (record { slot = slot; bag = bag }) ≡ Some r =
-              ap notice_report (some_same f) ∙ g in
-              subst (λ (r : Report). IsChosen q w r.slot r.bag) (some_same h) (known bag e);
+              let same : record { slot = slot; bag = bag } ≡ r = cc (rw (← some_same f) at g) in
+              rw (← same)
+              (inv.records n slot (entry.Known bag) (known_among slot (w.sites n).records bag e));
         }
         go None (Some bag) e = reports_plain _ refl
         go None None e = reports_plain _ refl
@@ -131,25 +119,17 @@ module _ (q : QuorumSystem) (w : Network) (inv : Kept q w) where
     replies_kept slot Down = stays D (Some n)
 
     pub stops_kept : (mode : Mode) → Next q w (Some n) D (stops w n mode)
-    stops_kept (Up volatile) = idle_kept Down (GoesDown n) refl refl
-    stops_kept NeedsOpening = idle_kept Down (GoesDown n) refl refl
     stops_kept Down = stays D (Some n)
+    stops_kept mode = idle_kept Down (GoesDown n) refl refl
 
     opened_kept : Next q w (Some n) D (happening w n (opened n (w.sites n)))
     opened_kept =
-        subst
-        (λ (rs : List Record). Next q w (Some n) D (happening w n (record {
-          site = record { records = rs; mode = Up new_volatile };
-          sends = [];
-          notice = Some (ComesUp n (length (w.sites n).records));
-        })))
-        (append-nil (w.sites n).records)
+        rw (append-nil (w.sites n).records) at
         (idle_kept (Up new_volatile) (ComesUp n (length (w.sites n).records)) refl refl)
 
     pub starts_kept : (mode : Mode) → Next q w (Some n) D (starts w n mode)
     starts_kept (Up volatile) = stays D (Some n)
-    starts_kept NeedsOpening = opened_kept
-    starts_kept Down = opened_kept
+    starts_kept mode = opened_kept
 
   -- ---- an effect, under a fate
 
@@ -169,26 +149,21 @@ module _ (q : QuorumSystem) (w : Network) (inv : Kept q w) where
             kept_moved q w n e.commits after e.sends (notice_of n input e.says) May d.slot d.body
             d.sound inv (rw now d.recalls) d.reports
 
-        sound_of : (commits : Option Record) → e.commits ≡ commits
-            → Sound q w n May commits d.slot d.body e.sends
-        sound_of commits is =
-            subst (λ (o : Option Record). Sound q w n May o d.slot d.body e.sends) is d.sound
-
         go : (commits : Option Record) → e.commits ≡ commits → (fate : Fate)
             → Next q w (Some n) May
             (happening w n (outcome n (w.sites n) after input e commits fate))
         go commits is Whole = whole
         go None is (StopsIn device k) = idle_kept n May Down (GoesDown n) refl refl
         go (Some r) is (StopsIn device k) =
-            left_kept n May r d.slot d.body e.sends (sound_of (Some r) is) Down (GoesDown n) refl
-            refl (nat_le (length (record_bytes r)) k)
+            left_kept n May Down (GoesDown n) refl refl (rw is at d.sound)
+            (nat_le (length (record_bytes r)) k)
         go commits is (StopsAfter j) =
-            lost_kept n May commits d.slot d.body e.sends (sound_of commits is) Down (GoesDown n)
-            refl refl (take j e.sends) (λ f h. has_take j e.sends h)
+            lost_kept n May Down (GoesDown n) refl refl (rw is at d.sound) (take j e.sends)
+            (λ f h. has_take j e.sends h)
         go None is (FailsIn device k) = whole
         go (Some r) is (FailsIn device k) =
-            left_kept n May r d.slot d.body e.sends (sound_of (Some r) is) NeedsOpening
-            (Refused n faults.Device) refl refl (nat_le (length (record_bytes r)) k)
+            left_kept n May NeedsOpening (Refused n faults.Device) refl refl (rw is at d.sound)
+            (nat_le (length (record_bytes r)) k)
 
     -- a site that needs opening refuses
     refuses_deed : Deed q w n input (refuses faults.NeedsOpen new_volatile)

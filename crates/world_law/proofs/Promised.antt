@@ -1,6 +1,6 @@
 -- The promises of every schedule: reports agree and were deposited, and so was each bag that was
 -- proposed, voted for or known.
-use Rattle.std.proofs.Common.{ℕ, zero, suc, ◌≡◌, ◌≤◌, ◌<◌, refl, sym, ap, subst, ◌∙◌, ◌+◌, arith}
+use Rattle.std.proofs.Common.{ℕ, zero, suc, ◌≡◌, ◌≤◌, ◌<◌, refl, sym, ap, ◌∙◌, ◌+◌, arith}
 use Rattle.std.proofs.Common.{inl, inr, List, [], ◌∷◌, ◌++◌, length-append}
 use Rattle.std.proofs.Common.{length, drop, Option, None, Some, append-nil, append_assoc}
 use Rattle.std.proofs.Math.Seq.{drop-append_seam}
@@ -14,9 +14,8 @@ use Rattle.records.specs.declared.entry.Entry.TheVariants as entry
 use Rattle.schedule.specs.declared.command.Command.{Command}
 use Rattle.schedule.specs.Plans.{Plan}
 use Rattle.lines.specs.declared.line.Line.{Line}
-use Rattle.world_law.specs.Headline.{reported, LinesAgree, DepositedBy, world_after, printed}
-use Rattle.world_law.specs.Headline.{DepositedBefore, LinesStay, ReportsWereDeposited}
-use Rattle.world_law.specs.Headline.{BagsWereDeposited}
+use Rattle.world_law.specs.Headline.{reported, LinesAgree, world_after, printed, DepositedBefore}
+use Rattle.world_law.specs.Headline.{LinesStay, ReportsWereDeposited, BagsWereDeposited}
 use Rattle.world_law.specs.Laws.{OnRecord}
 use Rattle.world_law.specs.Networks.{Event, Happening, happens}
 use Rattle.world_law.specs.Worlds.{World, new_world, own_lines, sent_lines, after_event, quorums}
@@ -37,10 +36,9 @@ adds_none : (w x : World) → x.lines ≡ w.lines → Adds w x
 adds_none w x e = record { added = []; is = e ∙ sym (append-nil w.lines) }
 
 adds_then : {w x y : World} → Adds w x → Adds x y → Adds w y
-adds_then {w} {x} {y} a b = record {
+adds_then a b = record {
   added = a.added ++ b.added;
-  is = b.is ∙ ap (λ (ls : List Line). ls ++ b.added) a.is
-      ∙ append_assoc w.lines a.added b.added;
+  is = rw (b.is, a.is, append_assoc);
 }
 
 event_adds : (w x : World) (e : Event) → x.lines ≡ w.lines → Adds w (after_event x e)
@@ -77,11 +75,7 @@ line_adds w number (Some c) =
 
 pub lines_stay : LinesStay
 lines_stay w number line =
-    let a = line_adds w number line in
-    a.is
-    ∙ ap (λ (ls : List Line). w.lines ++ ls)
-    (sym (drop-append_seam w.lines a.added)
-    ∙ ap (λ (ls : List Line). drop (length w.lines) ls) (sym a.is))
+    let a = line_adds w number line in rw (a.is, drop-append_seam w.lines a.added)
 
 -- ---- which line prints
 
@@ -146,7 +140,7 @@ printed_from (line ∷ others) number w earlier later l e past =
             before = line ∷ p.before;
             line = p.line;
             later = p.later;
-            split = ap (λ (ls : List (Option Command)). line ∷ ls) p.split;
+            split = cc (p.split);
             at = p.at;
             at_is = omega (arith, p.at_is);
             not_yet = p.not_yet;
@@ -178,8 +172,7 @@ module _ (plan : Plan) where
         line = d.line;
         later = d.later;
         split = d.split;
-        deposits = subst (λ (n : ℕ). DepositedBy (world_after plan d.earlier) n d.line slot bag)
-            d.at_is d.deposits;
+        deposits = rw d.at_is at d.deposits;
       }
 
   pub lines_agree : LinesAgree (run_of plan).lines
@@ -214,8 +207,7 @@ module _ (plan : Plan) where
           later = p.later;
           split = p.split;
           not_yet = p.not_yet;
-          by_it = subst (λ (n : ℕ). length earlier
-              < length (after_line (world_after plan p.before) n p.line).lines) p.at_is p.by_it;
+          by_it = rw p.at_is at p.by_it;
         },
         printed_deposited p.before p.line p.at l slot bag p.printed e,
       )

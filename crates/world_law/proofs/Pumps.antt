@@ -1,7 +1,7 @@
 -- Which datagram's number a turn of a pump names: the least that nothing has named. Where every
 -- number is named a pump does nothing, however many turns it has.
 use Rattle.std.proofs.Common.{ℕ, zero, suc, ◌≡◌, ◌<◌, ◌≤◌, ◌⊎◌, inl, inr, Bool, true, false, not}
-use Rattle.std.proofs.Common.{refl, sym, ap, ◌∙◌, [], ◌∷◌, length, Option, None, Some, arith}
+use Rattle.std.proofs.Common.{refl, sym, ap, ◌∙◌, [], ◌∷◌, length, None, Some, arith}
 use Rattle.std.specs.List.{find}
 use Rattle.std.proofs.lemmas.List.Folds.{find-append}
 use Rattle.fed_types.specs.Lists.{is_in}
@@ -52,13 +52,7 @@ none_is w h =
 
 -- ---- a pump without a number left
 
-idle_turn : (w : World) (number : ℕ) → next_unnamed w ≡ None → on_turn w number (next_unnamed w) ≡ w
-unfolding on_turn
-idle_turn w number none = ap (λ (o : Option ℕ). on_turn w number o) none
-
 pub idle_pump : (w : World) (number turns : ℕ) → next_unnamed w ≡ None → pumped w number turns ≡ w
-unfolding pumped
+unfolding pumped on_turn
 idle_pump w number zero none = refl
-idle_pump w number (suc turns) none =
-    ap (λ (v : World). pumped v number turns) (idle_turn w number none)
-    ∙ idle_pump w number turns none
+idle_pump w number (suc turns) none = rw none (idle_pump w number turns none)

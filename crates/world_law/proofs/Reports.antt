@@ -1,6 +1,5 @@
 -- What a run reports was chosen.
-use Rattle.std.proofs.Common.{◌≡◌, inl, inr, ap, List, [], ◌∷◌, Option, None}
-use Rattle.std.proofs.Common.{Some}
+use Rattle.std.proofs.Common.{◌≡◌, inl, inr, ap, List, [], ◌∷◌, Option, None, Some}
 use Rattle.std.specs.Option.{option_to_list}
 use Rattle.fed_types.specs.declared.bag_id.BagId.{BagId}
 use Rattle.fed_types.specs.Lists.{Has}

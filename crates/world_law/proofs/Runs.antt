@@ -1,6 +1,5 @@
 -- Every network of a run is kept.
-use Rattle.std.proofs.Common.{◌≡◌, refl}
-use Rattle.std.proofs.Common.{subst, List, [], ◌∷◌, Option, None, Some}
+use Rattle.std.proofs.Common.{◌≡◌, refl, List, [], ◌∷◌, Option, None, Some}
 use Rattle.std.specs.Option.{option_map}
 use Rattle.fed_types.specs.Lists.{Has}
 use Rattle.fed_types.specs.Quorums.{QuorumSystem, AreQuorums}
@@ -16,8 +15,7 @@ use Rattle.world_law.specs.Networks.{Recover, Query, Deliver, Raw, Stop, Start, 
 use Rattle.world_law.specs.Networks.{arrives, happens, run}
 use Rattle.world_law.specs.Networks as networks
 use Rattle.world_law.proofs.Kept.{Kept}
-use Rattle.world_law.proofs.Step.{Deposits as Allowed}
-use Rattle.world_law.proofs.Step.{Next}
+use Rattle.world_law.proofs.Step.{Deposits as Allowed, Next}
 use Rattle.world_law.proofs.Deeds.{MayDeposit, some_same}
 use Rattle.world_law.proofs.Sends.{at_number}
 use Rattle.world_law.proofs.Arrivals.{arrival_deed}
@@ -44,8 +42,7 @@ module _ (q : QuorumSystem) (w : Network) (inv : Kept q w) where
     where
       was_sent : (m : Message) → Some d.message ≡ Some m → WasSent w m.slot m.body
       was_sent m e =
-          subst (λ (m : Message). WasSent w m.slot m.body)
-          (some_same e) (record { to = d.to; is_sent = sent d refl })
+          rw (← some_same e) (record { to = d.to; is_sent = sent d refl })
 
 pub happens_kept : (q : QuorumSystem) → AreQuorums q → (w : Network) → Kept q w → (e : Event)
     → Next q w (site_of w e) (DepositOf e) (happens q w e)

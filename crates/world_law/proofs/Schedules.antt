@@ -1,6 +1,6 @@
 -- What every world of a schedule keeps: its network does what the laws say, what its lines report
 -- was chosen, and each deposit on record was made by a line so far.
-use Rattle.std.proofs.Common.{ℕ, zero, suc, ◌≡◌, ◌⊎◌, inl, inr, refl, sym, ap, ◌∙◌, ◌+◌}
+use Rattle.std.proofs.Common.{ℕ, zero, suc, ◌≡◌, ◌⊎◌, inl, inr, refl, ◌+◌}
 use Rattle.std.proofs.Common.{List, [], ◌∷◌, ◌++◌, length, Option, None, Some, arith}
 use Rattle.std.specs.Prelude.{Ok}
 use Rattle.fed_types.specs.declared.bag_id.BagId.{BagId}
@@ -19,20 +19,14 @@ use Rattle.lines.specs.declared.line.Line.TheVariants as lines
 use Rattle.lines.specs.declared.line.Reason.{Reason}
 use Rattle.world_law.specs.Headline.{reported, IsValidDeposit, DepositedBy}
 use Rattle.world_law.specs.Laws.{OnRecord, IsChosen, Report, notice_report, site_of}
-use Rattle.world_law.specs.Networks.{Network, new_network, new_site, Event, Deposit, Propose}
+use Rattle.world_law.specs.Networks.{Network, new_network, new_site, Event, Deposit, Deliver}
+use Rattle.world_law.specs.Networks.{Happening, happens}
 use Rattle.lines.specs.declared.notice.Notice.{Notice}
-use Rattle.lines.specs.declared.notice.Notice.TheVariants.{Registered, Learned}
-use Rattle.world_law.specs.Networks.{Recover, Ask, Query, Deliver, Raw, Stop, Start}
-use Rattle.lines.specs.declared.notice.Notice.TheVariants.{Replied, Refused, Dropped, GoesDown}
-use Rattle.lines.specs.declared.notice.Notice.TheVariants.{ComesUp}
-use Rattle.world_law.specs.Networks.{Happening}
-use Rattle.world_law.specs.Networks.{happens}
-use Rattle.lines.specs.Named.{SeenBag}
+use Rattle.lines.specs.declared.notice.Notice.TheVariants.{Replied}
+use Rattle.lines.specs.Named.{SeenBag, line_of}
 use Rattle.world_law.specs.Trees.{NumberedTree}
-use Rattle.lines.specs.Named.{line_of}
-use Rattle.world_law.specs.Worlds.{World, new_world, own_lines, sent_lines, after_event}
-use Rattle.world_law.specs.Worlds.{quorums, next_unnamed, on_turn, pumped}
-use Rattle.world_law.specs.Worlds.{after_line, run_from}
+use Rattle.world_law.specs.Worlds.{World, new_world, own_lines, sent_lines, after_event, quorums}
+use Rattle.world_law.specs.Worlds.{next_unnamed, on_turn, pumped, after_line, run_from}
 use Rattle.world_law.proofs.Commands.{Comes, turn_is, command_is}
 use Rattle.world_law.proofs.Deeds.{some_same}
 use Rattle.world_law.proofs.Grows.{chosen_grows}
@@ -44,24 +38,15 @@ use Rattle.world_law.proofs.Step.{Next}
 
 -- a notice's line reports what the notice does
 notice_reports : (seen : List SeenBag) (n : Notice) → reported (line_of seen n) ≡ notice_report n
-notice_reports seen (Registered site slot bag) = refl
-notice_reports seen (Learned site slot bag) = refl
 notice_reports seen (Replied site slot (replies.Known bag)) = refl
-notice_reports seen (Replied site slot (replies.Pending bag)) = refl
-notice_reports seen (Replied site slot replies.Nothing) = refl
-notice_reports seen (Refused site fault) = refl
-notice_reports seen (Dropped site) = refl
-notice_reports seen (GoesDown site) = refl
-notice_reports seen (ComesUp site records) = refl
+notice_reports seen n = refl
 
 -- datagrams report nothing
 sent_reports : (federation number : ℕ) (sends : List Send) (l : Line) (r : Report)
     → Has l (sent_lines federation number sends) → reported l ≡ Some r → ⊥
 unfolding sent_lines
 sent_reports federation number [] l r h e = absurd (has_none h)
-sent_reports federation number (d ∷ sends) l r (here f) e =
-    let g : None ≡ Some r = ap reported f ∙ e in
-    cc
+sent_reports federation number (d ∷ sends) l r (here f) e = absurd (cc (rw (← f) at e))
 sent_reports federation number (d ∷ sends) l r (there h) e =
     sent_reports federation (number + 1) sends l r h e
 
@@ -74,13 +59,11 @@ record ByNotice (o : Option Notice) (r : Report) : Type 0 where
 by_notice : (seen : List SeenBag) (o : Option Notice) (l : Line) (r : Report)
     → Has l (own_lines seen o) → reported l ≡ Some r → ByNotice o r
 by_notice seen None l r h e = absurd (has_none h)
-by_notice seen (Some n) l r h e =
-    let f : line_of seen n ≡ l = has_one h in
-    record {
-      notice = n;
-      is = refl;
-      reports = sym (notice_reports seen n) ∙ ap reported f ∙ e;
-    }
+by_notice seen (Some n) l r h e = record {
+  notice = n;
+  is = refl;
+  reports = rw (← notice_reports seen n, has_one h) e;
+}
 
 -- ---- deposits
 
@@ -94,14 +77,7 @@ made_by : (w : Network) (e : Event) (k : ℕ) (slot : SlotName) (bag : BagId)
 made_by w (Deposit site s checked fate) k slot bag at may =
     let place : site ≡ k = some_same at in
     record { fate = fate; is = λ i. Deposit (place i) (may.0 i) (may.1 i) fate }
-made_by w (Propose site s fate) k slot bag at may = absurd may
-made_by w (Recover site s fate) k slot bag at may = absurd may
-made_by w (Ask site member s fate) k slot bag at may = absurd may
-made_by w (Query site s) k slot bag at may = absurd may
-made_by w (Deliver number fate) k slot bag at may = absurd may
-made_by w (Raw site) k slot bag at may = absurd may
-made_by w (Stop site) k slot bag at may = absurd may
-made_by w (Start site) k slot bag at may = absurd may
+made_by w e k slot bag at may = absurd may
 
 -- ---- what holds of a world
 
@@ -210,7 +186,7 @@ module _ (w : World) (h : Holds w) where
           → reported l ≡ Some r → IsChosen (quorums w) w.network r.slot r.bag
       reports l r i f = elim (has_cases w.lines _ i) [
         | inl old ↦ h.reports l r old f
-        | inr new ↦ absurd (let g : None ≡ Some r = ap reported (has_one new) ∙ f in cc)
+        | inr new ↦ absurd (cc (rw (← has_one new) at f))
       ]
 
 -- ---- a pump
@@ -332,7 +308,7 @@ deposits_from (line ∷ others) number w h k slot bag i =
         earlier = line ∷ d.earlier;
         line = d.line;
         later = d.later;
-        split = ap (λ (ls : List (Option Command)). line ∷ ls) d.split;
+        split = cc (d.split);
         at = d.at;
         at_is = omega (arith, d.at_is);
         deposits = d.deposits;

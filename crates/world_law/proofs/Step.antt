@@ -1,9 +1,10 @@
 -- One site adds a record and sends messages of one body: when a network that is kept stays so.
-use Rattle.std.proofs.Common.{ℕ, ◌≡◌, ◌≢◌, Bool, true, false, cond, ◌⊎◌, inl, inr, refl, sym, ap}
-use Rattle.std.proofs.Common.{subst, ◌∙◌, List, [], ◌∷◌, ◌++◌, Option, None, Some}
+use Rattle.std.proofs.Common.{ℕ, ◌≡◌, ◌≢◌, ◌⊎◌, inl, inr, refl, sym, ap}
+use Rattle.std.proofs.Common.{◌∙◌, List, [], ◌∷◌, ◌++◌, Option, None, Some}
 use Rattle.std.specs.Bool.{◌==◌}
 use Rattle.std.specs.Option.{option_to_list}
 use Rattle.std.proofs.lemmas.Bool.Decides.{Decides-eqb, not_from_Decides}
+use Rattle.std.proofs.lemmas.Bool.{cond_both}
 use Rattle.fed_types.specs.declared.bag_id.BagId.{BagId}
 use Rattle.fed_types.specs.declared.vote.Vote.{Vote}
 use Rattle.fed_types.specs.Ballots.{BallotNumber, Below}
@@ -15,9 +16,7 @@ use Rattle.records.specs.declared.entry.Entry.{Entry}
 use Rattle.records.specs.declared.entry.Entry.TheVariants as entry
 use Rattle.records.specs.declared.record.Record.{Record}
 use Rattle.dgram.specs.declared.body.Body.{Body}
-use Rattle.dgram.specs.declared.body.Body.TheVariants.{Prepare, Promise, Accept, Accepted, Refused}
-use Rattle.dgram.specs.declared.body.Body.TheVariants.{Ask, Known, Deposit, Query, Recover}
-use Rattle.dgram.specs.declared.body.Body.TheVariants.{DepositReply, QueryReply}
+use Rattle.dgram.specs.declared.body.Body.TheVariants.{Promise, Accept, Accepted, Known}
 use Rattle.dgram.specs.Encoding.{body_from}
 use Rattle.dgram.specs.Heard.{promisers}
 use Rattle.proposer.specs.Proposals.{Current, gathered}
@@ -72,13 +71,7 @@ reports_nothing = record { chosen = λ m r e f. absurd (cc e) }
 
 pub reports_plain : {q : QuorumSystem} {w : Network} (m : Notice) → notice_report m ≡ None
     → ReportsChosen q w (Some m)
-reports_plain m e = record { chosen = λ k r f g. absurd (reports_none k r f g) }
-  where
-    reports_none : (k : Notice) (r : Report) → Some m ≡ Some k → notice_report k ≡ Some r → ⊥
-    reports_none k r f g =
-        let h : m ≡ k = cc in
-        let i : None ≡ Some r = sym e ∙ ap notice_report h ∙ g in
-        cc
+reports_plain m e = record { chosen = λ k r f g. absurd (cc (e, f, g)) }
 
 -- x has what w has, and n has the record
 pub record Extends (w x : Network) (n : ℕ) (kept : Option Record) : Type 0 where
@@ -166,11 +159,9 @@ nothing_recalled = record {
 
 pub site_cases : (P : SiteState → Type 0) (w : Network) (n k : ℕ) (o : SiteOutcome)
     → (k ≡ n → P o.site) → (k ≢ n → P (w.sites k)) → P ((happening w n o).network.sites k)
-site_cases P w n k o same other = go (k == n) refl
-  where
-    go : (t : Bool) → (k == n) ≡ t → P (cond t o.site (w.sites k))
-    go true e = same ((Decides-eqb k n).0 e)
-    go false e = other (not_from_Decides _ (Decides-eqb k n) e)
+site_cases P w n k o same other =
+    cond_both (k == n) o.site (w.sites k) P (λ e. same ((Decides-eqb k n).0 e))
+    (λ e. other (not_from_Decides _ (Decides-eqb k n) e))
 
 has_optional : {X : Type 0} (xs : List X) (o : Option X) (x : X) → Has x (xs ++ option_to_list o)
     → Has x xs ⊎ (o ≡ Some x)
@@ -235,33 +226,19 @@ module _ (q : QuorumSystem) (w : Network) (n : ℕ) (kept : Option Record) (mode
         above k slot vote b f e promised = (s.entry _ e x extends).above b (rw f at promised)
 
     says_new : (slot : SlotName) (body : Body) → NewBody q w x n slot body → Says q x slot body
-    says_new slot (Prepare b) h = h
-    says_new slot (Promise k b prior) h = h
     says_new slot (Accept vote) h = h.says
-    says_new slot (Accepted k vote) h = h
-    says_new slot (Refused k b c) h = h
-    says_new slot (Ask k) h = h
-    says_new slot (Known k bag) h = h
-    says_new slot (Deposit path) h = h
-    says_new slot Query h = h
-    says_new slot Recover h = h
-    says_new slot (DepositReply k answer) h = h
-    says_new slot (QueryReply k answer) h = h
+    says_new slot body h = h
 
     means_new : (slot : SlotName) (e : Entry) → NewEntry q w x n D slot e → Means q x slot e
-    means_new slot (entry.Deposit bag) h = tt
-    means_new slot (entry.Round round) h = h
-    means_new slot (entry.Promise ballot) h = h
     means_new slot (entry.Vote vote) h = h.asked
-    means_new slot (entry.Known bag) h = h
+    means_new slot (entry.Deposit bag) h = tt
+    means_new slot e h = h
 
     says_from : (d : Send) → Carries slot0 body0 d → Says q x d.message.slot d.message.body
-    says_from d f =
-        subst (λ (d : Send). Says q x d.message.slot d.message.body) f.is
-        (says_new slot0 body0 (s.says x extends))
+    says_from d f = rw (← f.is) (says_new slot0 body0 (s.says x extends))
 
     names_from : (d : Send) → Carries slot0 body0 d → body_from d.message.body ≡ Some n
-    names_from d f = subst (λ (d : Send). body_from d.message.body ≡ Some n) f.is s.own
+    names_from d f = rw (← f.is) s.own
 
     new_accept : (slot : SlotName) (b : BallotNumber) (bag : BagId) (d : Send)
         → Carries slot0 body0 d → d.message.slot ≡ slot
@@ -279,17 +256,13 @@ module _ (q : QuorumSystem) (w : Network) (n : ℕ) (kept : Option Record) (mode
 
     proposed : (slot : SlotName) (b : BallotNumber) (bag : BagId) → IsNew slot0 body0 slot b bag
         → NewProposal q w x n slot (vote_for b bag)
-    proposed slot b bag i =
-        let h : NewBody q w x n slot (Accept (vote_for b bag)) =
-        rw i.body_is at (rw i.slot_is at (s.says x extends)) in
-        h
+    proposed slot b bag i = rw i.body_is at (rw i.slot_is at (s.says x extends))
 
     same_accept : (slot : SlotName) (b : BallotNumber) (u v : BagId) → IsNew slot0 body0 slot b u
         → IsNew slot0 body0 slot b v → u ≡ v
     same_accept slot b u v i j =
-        let e : Accept (vote_for b u) ≡ Accept (vote_for b v) = sym i.body_is ∙ j.body_is in
-        let f : vote_for b u ≡ vote_for b v = cc in
-        ap (λ (y : Vote). y.bag) f
+        let same : vote_for b u ≡ vote_for b v = cc (i.body_is, j.body_is) in
+        ap (λ (y : Vote). y.bag) same
 
     module _ (inv : Kept q w) (recalls : Recalls q w n kept slot0 body0 (volatile_in mode))
         (reports : ReportsChosen q w notice) where

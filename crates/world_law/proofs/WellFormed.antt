@@ -1,8 +1,9 @@
 -- A network stays well-formed, whatever well-formed events happen.
-use Rattle.std.proofs.Common.{ℕ, ◌≡◌, Bool, true, false, cond, inl, inr, refl, arith}
+use Rattle.std.proofs.Common.{ℕ, ◌≡◌, inl, inr, refl, arith}
 use Rattle.std.proofs.Common.{length, take, List, [], ◌∷◌, ◌++◌, Option, None, Some}
 use Rattle.std.specs.Bool.{nat_le}
 use Rattle.std.specs.Option.{IfSome, option_to_list}
+use Rattle.std.proofs.lemmas.Bool.{cond_both}
 use Rattle.fed_types.specs.Lists.{Has, is_in}
 use Rattle.fed_types.specs.Quorums.{QuorumSystem, quorums_of}
 use Rattle.fed_types.specs.Sites.{Membership, IsSiteNumber, count_of}
@@ -22,11 +23,10 @@ use Rattle.schedule.specs.declared.fate.Fate.TheVariants.{Whole, StopsIn, StopsA
 use Rattle.lines.specs.declared.notice.Notice.{Notice}
 use Rattle.lines.specs.declared.notice.Notice.TheVariants.{GoesDown}
 use Rattle.world_law.specs.Networks.{Mode, Up, Down, NeedsOpening, volatile_in, SiteState, Network}
-use Rattle.world_law.specs.Networks.{new_site, new_network, Event, Deposit, Propose, Recover}
-use Rattle.world_law.specs.Networks.{Query, Deliver, Raw, Stop, Start, SiteOutcome, Happening}
-use Rattle.world_law.specs.Networks.{happening, outcome}
-use Rattle.world_law.specs.Networks.{nothing, if_member, reaches, takes, replies, datagram_at}
-use Rattle.world_law.specs.Networks.{arrives, stops, starts, opened, happens, run}
+use Rattle.world_law.specs.Networks.{new_site, new_network, Event, Deposit, Propose, Recover, Query}
+use Rattle.world_law.specs.Networks.{Deliver, Raw, Stop, Start, SiteOutcome, Happening, happening}
+use Rattle.world_law.specs.Networks.{outcome, nothing, if_member, reaches, takes, replies}
+use Rattle.world_law.specs.Networks.{datagram_at, arrives, stops, starts, opened, happens, run}
 use Rattle.world_law.specs.Networks as networks
 use Rattle.world_law.specs.WellFormed.{MembersAreSites, AreMessages, IsSend, IsWellFormed}
 use Rattle.world_law.specs.WellFormed.{IsWellFormedEvent, AreWellFormedEvents}
@@ -127,29 +127,24 @@ module _ (w : Network) (inv : IsWellFormed w) (n : ℕ) where
 
   starts_is : (mode : Mode) → IsWellFormed (starts w n mode).network
   starts_is (Up volatile) = inv
-  starts_is NeedsOpening = opened_is
-  starts_is Down = opened_is
+  starts_is mode = opened_is
 
   stops_is : (mode : Mode) → IsWellFormed (stops w n mode).network
-  stops_is (Up volatile) = happening_is _ (silent_is None tt Down tt (Some (GoesDown n)))
-  stops_is NeedsOpening = happening_is _ (silent_is None tt Down tt (Some (GoesDown n)))
   stops_is Down = inv
+  stops_is mode = happening_is _ (silent_is None tt Down tt (Some (GoesDown n)))
 
   replies_is : (slot : _) (mode : Mode) → IsWellFormed (replies w n mode slot).network
   replies_is slot (Up volatile) = inv
-  replies_is slot NeedsOpening = inv
-  replies_is slot Down = inv
+  replies_is slot mode = inv
 
   -- ---- only at a member, whose number is a site's
 
   module _ (q : QuorumSystem) (members : MembersAreSites q) where
     member_is : (h : Happening) → (IsSiteNumber n → IsWellFormed h.network)
         → IsWellFormed (if_member q w n h).network
-    member_is h is = go (is_in q.members n) refl
-      where
-        go : (t : Bool) → is_in q.members n ≡ t → IsWellFormed (cond t h (nothing w)).network
-        go true e = is (members n ((is_in_decides q.members n).0 e))
-        go false e = inv
+    member_is h is =
+        cond_both (is_in q.members n) h (nothing w) (λ (h : Happening). IsWellFormed h.network)
+        (λ e. is (members n ((is_in_decides q.members n).0 e))) (λ e. inv)
 
     takes_is : (input : Input) → IsWellFormedInput input → (fate : Fate)
         → IsWellFormed (takes q w n input fate).network

@@ -1,7 +1,7 @@
 -- What a site does with a well-formed message is well-formed.
-use Rattle.std.proofs.Common.{ℕ, Bool, true, false, cond, ◌||◌, refl}
-use Rattle.std.proofs.Common.{List, [], ◌∷◌, ◌++◌, Option, None, Some}
+use Rattle.std.proofs.Common.{ℕ, cond, ◌||◌, refl, List, [], ◌∷◌, ◌++◌, Option, None, Some}
 use Rattle.std.specs.Option.{IfSome}
+use Rattle.std.proofs.lemmas.Bool.{cond_both}
 use Rattle.fed_types.specs.declared.bag_id.BagId.{BagId}
 use Rattle.fed_types.specs.declared.vote.Vote.{Vote}
 use Rattle.fed_types.specs.Ballots.{BallotNumber, below, same_ballot}
@@ -14,8 +14,7 @@ use Rattle.records.specs.Records.{IsEntry, AreRecords}
 use Rattle.records.specs.SlotStates.{promised_of, vote_of, deposit_of, known_of}
 use Rattle.dgram.specs.declared.body.Body.{Body}
 use Rattle.dgram.specs.declared.body.Body.TheVariants.{Prepare, Promise, Accept, Accepted, Refused}
-use Rattle.dgram.specs.declared.body.Body.TheVariants.{Ask, Known, Deposit, Query, Recover}
-use Rattle.dgram.specs.declared.body.Body.TheVariants.{DepositReply, QueryReply}
+use Rattle.dgram.specs.declared.body.Body.TheVariants.{Ask, Known}
 use Rattle.dgram.specs.declared.message.Message.{Message}
 use Rattle.dgram.specs.Encoding.{body_from}
 use Rattle.dgram.specs.Heard.{PromiseFrom, bodies_of, voters_for}
@@ -23,9 +22,8 @@ use Rattle.dgram.specs.Messages.{IsBody, IsPrior, IsMessage}
 use Rattle.acceptor.specs.declared.decision.Response.{Response}
 use Rattle.acceptor.specs.declared.decision.Response.TheVariants as answer
 use Rattle.acceptor.specs.declared.decision.Decision.{Decision}
-use Rattle.acceptor.specs.Decisions.{promises, votes, votes_again, refuses, on_prepare}
-use Rattle.acceptor.specs.Decisions.{is_in_ballot, is_vote, on_new_accept, prepare_decision}
-use Rattle.acceptor.specs.Decisions.{accept_decision}
+use Rattle.acceptor.specs.Decisions.{promises, votes, refuses, on_prepare, is_in_ballot, is_vote}
+use Rattle.acceptor.specs.Decisions.{on_new_accept, prepare_decision, accept_decision}
 use Rattle.learner.specs.LearnedBags.{unless_known, chosen_by, with_vote}
 use Rattle.proposer.specs.Proposals.{Current, gathered, completes, highest_prior, bag_of, proposal}
 use Rattle.proposer.specs.Proposals.{ready}
@@ -74,46 +72,32 @@ module _ (q : QuorumSystem) (members : MembersAreSites q) (n : ℕ) (is_site : I
     prepare_is b is_b =
         on_promised (promised_of slot records) (promised_is slot records are_records)
       where
-        on_test : (t : Bool) (p : BallotNumber) → IsBallot p
-            → IsWellFormedDecision n
-            (cond t (promises b (vote_of slot records)) (refuses b p))
-        on_test true p is_p = promises_is b is_b
-        on_test false p is_p = refuses_is b p is_b is_p
-
         on_promised : (o : Option BallotNumber) → IfSome o IsBallot
             → IsWellFormedDecision n (on_prepare o (vote_of slot records) b)
         on_promised None h = promises_is b is_b
-        on_promised (Some p) h = on_test (below p b) p h
+        on_promised (Some p) h =
+            cond_both (below p b) _ _ (IsWellFormedDecision n) (λ e. promises_is b is_b)
+            (λ e. refuses_is b p is_b h)
 
     accept_is : (asked : Vote) → IsVote asked
         → IsWellFormedDecision n (accept_decision slot records asked)
     unfolding accept_decision
     accept_is asked is_asked =
-        on_vote (is_vote asked (vote_of slot records))
+        cond_both (is_vote asked (vote_of slot records)) _ _ (IsWellFormedDecision n)
+        (λ e. record { entry = tt; body = (is_site, is_asked) })
+        (λ e. on_promised (promised_of slot records) (promised_is slot records are_records))
       where
-        on_test : (t : Bool) (p : BallotNumber) → IsBallot p
-            → IsWellFormedDecision n (cond t (refuses asked.ballot p) (votes asked))
-        on_test true p is_p = refuses_is asked.ballot p is_asked.0 is_p
-        on_test false p is_p = votes_is asked is_asked
-
         on_promised : (o : Option BallotNumber) → IfSome o IsBallot
             → IsWellFormedDecision n (on_new_accept o (vote_of slot records) asked)
         on_promised None h = votes_is asked is_asked
         on_promised (Some p) h =
-            on_test (below asked.ballot p || is_in_ballot asked.ballot (vote_of slot records)) p h
-
-        on_vote : (t : Bool)
-            → IsWellFormedDecision n
-            (cond t (votes_again asked)
-            (on_new_accept (promised_of slot records) (vote_of slot records) asked))
-        on_vote true = record { entry = tt; body = (is_site, is_asked) }
-        on_vote false =
-            on_promised (promised_of slot records) (promised_is slot records are_records)
+            cond_both (below asked.ballot p || is_in_ballot asked.ballot (vote_of slot records)) _ _
+            (IsWellFormedDecision n) (λ e. refuses_is asked.ballot p is_asked.0 h)
+            (λ e. votes_is asked is_asked)
 
     addressed : (asker : ℕ) → IsSiteNumber asker → (a : Response) → AreSites (addressees q asker a)
-    addressed asker is_asker (answer.Promised b vote) = one_site asker is_asker
     addressed asker is_asker (answer.Accepted vote) = members
-    addressed asker is_asker (answer.Refused asked standing) = one_site asker is_asker
+    addressed asker is_asker a = one_site asker is_asker
 
     -- ---- with the volatile state after the message
 
@@ -200,23 +184,14 @@ module _ (q : QuorumSystem) (members : MembersAreSites q) (n : ℕ) (is_site : I
   body_is slot is_slot (Known from bag) is now heard =
       learning_is slot is_slot now heard _
       (unless_known_is slot is_slot (known_of slot records) (Some bag) is.1)
-  body_is slot is_slot (Deposit path) is now heard = dropped_is
-  body_is slot is_slot Query is now heard = dropped_is
-  body_is slot is_slot Recover is now heard = dropped_is
-  body_is slot is_slot (DepositReply from a) is now heard = dropped_is
-  body_is slot is_slot (QueryReply from a) is now heard = dropped_is
+  body_is slot is_slot body is now heard = dropped_is
 
   pub arrival_is : (o : Option Message) → IfSome o IsMessage
       → IsWellFormedEffect (on_arrival q n records old o)
   unfolding on_arrival
   arrival_is None h = dropped_is
-  arrival_is (Some m) h = go (is_member q (body_from m.body))
-    where
-      go : (t : Bool)
-          → IsWellFormedEffect
-          (cond t (on_body q n records old (hears old m) m.slot m.body)
-          (only_says site_lines.Dropped old))
-      go true =
-          body_is m.slot h.0 m.body h.1 (hears old m)
-          (all_with IsMessage old.heard (Some m) are_heard h)
-      go false = dropped_is
+  arrival_is (Some m) h =
+      cond_both (is_member q (body_from m.body)) _ _ IsWellFormedEffect
+      (λ e. body_is m.slot h.0 m.body h.1 (hears old m)
+      (all_with IsMessage old.heard (Some m) are_heard h))
+      (λ e. dropped_is)

@@ -1,10 +1,10 @@
 -- What a site does with a well-formed input is well-formed.
-use Rattle.std.proofs.Common.{ℕ, ◌≡◌, ◌+◌, ◌<◌, Bool, true, false, cond, refl, arith}
+use Rattle.std.proofs.Common.{ℕ, ◌+◌, ◌<◌, Bool, true, refl, arith}
 use Rattle.std.proofs.Common.{List, [], ◌∷◌, Option, None, Some}
 use Rattle.std.specs.Prelude.{Result, Ok, Err, IfOk}
 use Rattle.std.specs.Bool.{nat_lt}
 use Rattle.std.specs.Option.{IfSome}
-use Rattle.std.proofs.lemmas.Bool.{ltb-true}
+use Rattle.std.proofs.lemmas.Bool.{ltb-true, cond_both}
 use Rattle.fed_types.specs.declared.bag_id.BagId.{BagId}
 use Rattle.fed_types.specs.Ballots.{BallotNumber}
 use Rattle.fed_types.specs.Limits.{greatest_round}
@@ -68,17 +68,12 @@ module _ (q : QuorumSystem) (members : MembersAreSites q) (n : ℕ) (is_site : I
   -- the ballot of a round that is left
   next_is : (slot : SlotName) → IfSome (next_ballot n slot records old.heard) IsBallot
   unfolding next_ballot
-  next_is slot = go (nat_lt last greatest_round) refl
-    where
-      last : ℕ
-      last = last_round slot records old.heard
-
-      go : (t : Bool) → nat_lt last greatest_round ≡ t
-          → IfSome (cond t (Some (record { round = 1 + last; site = n })) None) IsBallot
-      go true e =
-          let left : last < greatest_round = ltb-true last greatest_round e in
-          (omega arith, omega (arith, left), is_site)
-      go false e = tt
+  next_is slot =
+      let last : ℕ = last_round slot records old.heard in
+      cond_both (nat_lt last greatest_round) (Some (record { round = 1 + last; site = n })) None
+      (λ (o : Option BallotNumber). IfSome o IsBallot)
+      (λ e. let left : last < greatest_round = ltb-true last greatest_round e in
+      (omega arith, omega (arith, left), is_site)) (λ e. tt)
 
   begun_is : (slot : SlotName) → IsSlot slot → (next : Option BallotNumber) → IfSome next IsBallot
       → IsWellFormedEffect (begins_next q slot next old)
@@ -90,9 +85,8 @@ module _ (q : QuorumSystem) (members : MembersAreSites q) (n : ℕ) (is_site : I
   issuing_is : (slot : SlotName) → IsSlot slot → (known own : Option BagId)
       (next : Option BallotNumber) → IfSome next IsBallot
       → IsWellFormedEffect (begins_ballot_if q slot known own next old)
-  issuing_is slot is_slot (Some bag) own next h = refuses_is old are_heard _
-  issuing_is slot is_slot None None next h = refuses_is old are_heard _
   issuing_is slot is_slot None (Some bag) next h = begun_is slot is_slot next h
+  issuing_is slot is_slot known own next h = refuses_is old are_heard _
 
   proposed_is : (slot : SlotName) → IsSlot slot
       → IsWellFormedEffect (on_propose q n records old slot)
@@ -103,9 +97,8 @@ module _ (q : QuorumSystem) (members : MembersAreSites q) (n : ℕ) (is_site : I
   recovering_is : (slot : SlotName) → IsSlot slot → (known : Option BagId) (has : Bool)
       (next : Option BallotNumber) → IfSome next IsBallot
       → IsWellFormedEffect (recovers_if q slot known has next old)
-  recovering_is slot is_slot (Some bag) has next h = refuses_is old are_heard _
-  recovering_is slot is_slot None false next h = refuses_is old are_heard _
   recovering_is slot is_slot None true next h = begun_is slot is_slot next h
+  recovering_is slot is_slot known has next h = refuses_is old are_heard _
 
   recovered_is : (slot : SlotName) → IsSlot slot
       → IsWellFormedEffect (on_recover q n records old slot)

@@ -57,6 +57,6 @@ pub says_is : (e : Effect) → e.sends ≡ [] → IfSome e.commits IsRecord → 
     → IsWellFormedEffect e
 says_is e none commits heard = record {
   commits = commits;
-  sends = λ d h. absurd (has_none (subst (λ (ds : List Send). Has d ds) none h));
+  sends = λ d h. absurd (has_none (rw none at h));
   heard = heard;
 }

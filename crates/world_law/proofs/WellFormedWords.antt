@@ -66,9 +66,7 @@ prior_vote (Some v) vote h e = subst IsVote (some_same e) h
 ballot_of : (e : Entry) (b : BallotNumber) → IsEntry e → ballot_in e ≡ Some b → IsBallot b
 ballot_of (entry.Promise c) b h e = subst IsBallot (some_same e) h
 ballot_of (entry.Vote vote) b h e = subst IsBallot (some_same e) h.0
-ballot_of (entry.Deposit bag) b h e = absurd (cc e)
-ballot_of (entry.Round round) b h e = absurd (cc e)
-ballot_of (entry.Known bag) b h e = absurd (cc e)
+ballot_of e b h f = absurd (cc f)
 
 module _ (slot : SlotName) (records : List Record) (all : AreRecords records) where
   entry_is : (e : Entry) → HasEntry slot records e → IsEntry e

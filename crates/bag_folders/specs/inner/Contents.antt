@@ -2,8 +2,8 @@
 use Rattle.std.specs.Prelude.{◌≡◌, ℕ, true, false, List}
 use Rattle.bag_tree.specs.declared.algorithms.Algorithms.{Algorithms}
 use Rattle.bag_tree.specs.Path.{is_read_text}
-use Rattle.bag_folders.specs.declared.hash_state.Contents.{Contents}
-use Rattle.bag_folders.specs.declared.hash_state.Contents.TheVariants.{Text, Hashed}
+use Rattle.bag_folders.specs.declared.hashing.Contents.{Contents}
+use Rattle.bag_folders.specs.declared.hashing.Contents.TheVariants.{Text, Hashed}
 
 -- the bytes that came so far
 abbrev pub bytes_in : Contents → List ℕ

@@ -26,7 +26,8 @@ leads test files (Some place) = passes test (slice_get files place)
 
 -- Where a file has the path, or lies below the folder, the map leads to such a file. What else the
 -- map has leads to no such file, so that it does no harm.
-abbrev pub FindsEach : {Y : Type 0} → (List ℕ → List ℕ → Bool) → List File → BTreeMap (String Y) ℕ → Type 0
+abbrev pub FindsEach : {Y : Type 0} → (List ℕ → List ℕ → Bool) → List File → BTreeMap (String Y) ℕ
+    → Type 0
 FindsEach fits files places = (path : List ℕ)
     → list_any (λ file. fits path file.path) files
     ≡ leads (λ file. fits path file.path) files (get_by_text places path)

@@ -7,8 +7,8 @@ use Rattle.std.specs.declared.alloc.AllocError.{AllocError}
 use Rattle.known_bags.specs.declared.known_bag.KnownBag.{KnownBag}
 use Rattle.udp_site.specs.Traffic.{Move, Grows}
 use Rattle.fed_types.specs.Slots.{SlotName}
-use Rattle.site_commands.specs.declared.reply.Wanted.TheVariants as wanted
-use Rattle.site_commands.specs.Replies.{first_reply}
+use Rattle.site_client.specs.declared.reply.Wanted.TheVariants as wanted
+use Rattle.site_client.specs.Replies.{first_reply}
 use Rattle.catch_up.specs.declared.said_answers.AskFault.{AskFault}
 use Rattle.catch_up.specs.declared.said_answers.AskFault.TheVariants.{Memory, Output}
 use Rattle.catch_up.specs.declared.rounds.Target.{Target}

@@ -2,7 +2,7 @@
 use Rattle.std.specs.Prelude.{◌≡◌, ℕ, ◌+◌, ◌==◌, ◌&&◌, not, if◌then◌else◌}
 use Rattle.std.specs.Prelude.{List, [], ◌∷◌, ◌++◌, Bool, length, Option, Some, None}
 use Rattle.std.specs.List.{list_all}
-use Rattle.words.specs.Words.{◌>>=◌}
+use Rattle.tokens.specs.Words.{◌>>=◌}
 use Rattle.members_file.specs.declared.listed_site.ListedSite.{ListedSite}
 use Rattle.members_file.specs.declared.place.Place.{Place}
 use Rattle.members_file.specs.Files.{AreSites}

@@ -12,7 +12,7 @@ use Rattle.dgram.specs.declared.body.Body.TheVariants.{Prepare}
 use Rattle.proposer.specs.Proposals.{next_ballot}
 use Rattle.proposer.specs.VolatileStates.{VolatileState}
 use Rattle.proposer.specs.UnderWay.{UnderWay, begins}
-use Rattle.site_tables.specs.Contents.{Contents, IsOf, Represents}
+use Rattle.site.specs.Contents.{Contents, IsOf, Represents}
 use Rattle.site.specs.declared.answer.Answer.{Answer}
 use Rattle.site.specs.declared.fault.SiteFault.{SiteFault}
 use Rattle.site.specs.declared.fault.SiteFault.TheVariants as faults

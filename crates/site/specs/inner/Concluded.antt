@@ -12,7 +12,7 @@ use Rattle.dgram.specs.declared.body.Body.{Body}
 use Rattle.proposer.specs.VolatileStates.{VolatileState, hears}
 use Rattle.proposer.specs.UnderWay.{UnderWay, current_by, current_if, under_way_if}
 use Rattle.proposer.specs.UnderWay.{heard_if, waits}
-use Rattle.site_tables.specs.Contents as tables
+use Rattle.site.specs.Contents as tables
 use Rattle.fed_types.specs.Quorums.{quorums_of}
 use Rattle.fed_types.specs.Sites.{members_of}
 use Rattle.site.specs.declared.answer.Answer.{Answer}

@@ -4,6 +4,7 @@ use Rattle.std.specs.Prelude.{Option, Some, None, Result, Ok, Err}
 use Rattle.std.specs.List.{flat_map}
 use Rattle.std.specs.Io.KnownBytes.{Appends}
 use Rattle.std.specs.Option.{option_to_list}
+use Rattle.std.specs.declared.alloc.AllocError.{AllocError}
 use Rattle.lines.specs.declared.line.Line.{Line}
 use Rattle.cell_device.specs.Devices.{Device}
 use Rattle.book.specs.declared.fault.CommitFault.{CommitFault}
@@ -100,10 +101,9 @@ module _ (rule : Rule Waiting) (took : List Taken) (s : Serving Waiting)
       × (later : List Taken) × (took_by (turns ++ last ∷ []) ++ later ≡ took)
 
   abbrev pub TakesTurns : List Post → List Line → (idle tried : ℕ)
-      → Result (Unit {0}) ServeFault → Type 0
+      → Result (Unit {0}) AllocError → Type 0
   TakesTurns posted said idle tried (Ok whole) = TakesAll posted said idle tried
-  TakesTurns posted said idle tried (Err faults.Memory) = TakesSome
-  TakesTurns posted said idle tried (Err fault) = ⊥
+  TakesTurns posted said idle tried (Err e) = TakesSome
 
 module _ {C : Type 0} (device : C → Device) (rule : Rule Waiting) (took : List Taken)
     (before after : Outside) (s : Serving Waiting) (held now : BatchCell C)

@@ -40,7 +40,8 @@ WantsCounts old new now true = (counts_are_due old now ≡ true) × (new ≡ beg
 -- A turn was idle, or took a datagram at a moment, from which the pace learns. A Recover is taken
 -- only where it doesn't come too early, and later ones are early by it. No question how the site
 -- stands is taken.
-abbrev pub TurnIsPaced : (federation own : ℕ) → (old new : Pace) → (before after : Recoveries) → Turn
+abbrev pub TurnIsPaced : (federation own : ℕ) → (old new : Pace) → (before after : Recoveries)
+    → Turn
     → Type 0
 TurnIsPaced federation own old new before after turns.Idle = IsIdled old new × (after ≡ before)
 TurnIsPaced federation own old new before after (turns.Got from bytes) =

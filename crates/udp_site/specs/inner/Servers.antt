@@ -1,9 +1,9 @@
 -- What a part of a turn comes to, for a site that serves by what is lent to it.
 use Rattle.std.specs.Prelude.{◌≡◌, ◌+◌, ◌≤◌, ℕ, List, Option, Result}
+use Rattle.std.specs.declared.alloc.AllocError.{AllocError}
 use Rattle.bag_tree.specs.declared.fault.TreeFault.{TreeFault}
 use Rattle.bag_tree.specs.Facts.{TreeFacts}
 use Rattle.site.specs.Sites.{OpenSite}
-use Rattle.udp_site.specs.declared.fault.ServeFault.{ServeFault}
 use Rattle.udp_site.specs.declared.idle_turns.IdleProgress.{IdleProgress}
 use Rattle.udp_site.specs.declared.server.Server.{Server}
 use Rattle.udp_site.specs.Traffic.{Move}
@@ -37,7 +37,7 @@ pub record Stands {C : Type 0} (s : Serving C) (site : OpenSite C) (progress : I
   pub settled : AreSettled site.book.records progress.settled
 
 module _ {C P F : Type 0} (traffic : P → Option (List Move)) (coming : Serving C → Coming C)
-    (old new : Server C P F) (result : Result (Unit {0}) ServeFault) where
+    (old new : Server C P F) (result : Result (Unit {0}) AllocError) where
   -- so it comes of a part of a turn
   abbrev pub Comes : Type 0
   Comes =

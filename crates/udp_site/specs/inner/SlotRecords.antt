@@ -4,7 +4,7 @@ use Rattle.std.specs.Prelude.{Option, Some, None}
 use Rattle.fed_types.specs.Slots.{SlotName}
 use Rattle.records.specs.declared.record.Record.{Record}
 use Rattle.records.specs.SlotStates.{said_in, known_in, known_of}
-use Rattle.site_tables.specs.Contents.{deposits_of, slot_at}
+use Rattle.site.specs.Contents.{deposits_of, slot_at}
 
 -- that a bag is known for it
 abbrev pub says_known : SlotName → Record → Bool

@@ -31,10 +31,12 @@ returns-in-Ended g c =
     λ given is.
     let progress = subst
     (IsProgress c.args.members.now c.args.rule c.take.new.self evidence (i.0 ++ piece) given)
-    c.in-Ended.is (c.in_ok-fault-in-Some.ensures c.args.rule i.0 given (c.in_ok-note_mark.ensures.counted c.args.members.now c.args.rule
+    c.in-Ended.is (c.in_ok-fault-in-Some.ensures c.args.rule i.0 given
+    (c.in_ok-note_mark.ensures.counted c.args.members.now c.args.rule
     c.reads.evidence i.0 given (i.2 given is))) in
     amiss c.args.members.now c.args.rule evidence given first after (i.0 ++ piece)
-    c.in-Ended.fault (more_taken (left c.reads.cell) after i.0 c.read_into.new.piece first c.in-Some.count i.1
+    c.in-Ended.fault (more_taken (left c.reads.cell) after i.0 c.read_into.new.piece first
+    c.in-Some.count i.1
     c.in-Some.count-test.1 c.in-Some.ensures.bytes) progress.0 progress.1
 
 pub returns-in-None : goal.returns-in-None
@@ -61,6 +63,7 @@ reads-preserved g c =
       λ given is. subst
           (IsProgress c.args.members.now c.args.rule c.take.new.self c.take.new.evidence
           (i.0 ++ piece) given)
-          c.in-More.is (c.in_ok-fault-in-Some.ensures c.args.rule i.0 given (c.in_ok-note_mark.ensures.counted c.args.members.now c.args.rule
+          c.in-More.is (c.in_ok-fault-in-Some.ensures c.args.rule i.0 given
+          (c.in_ok-note_mark.ensures.counted c.args.members.now c.args.rule
           c.reads.evidence i.0 given (i.2 given is))),
     )

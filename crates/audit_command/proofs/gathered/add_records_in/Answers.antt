@@ -1,4 +1,5 @@
-use Rattle.std.proofs.Common.{◌≡◌, ◌∙◌, ℕ, List, Bool, true, Option, Some, None, IfSome, subst, sym, ap}
+use Rattle.std.proofs.Common.{◌≡◌, ◌∙◌, ℕ, List, Bool, true, Option, Some, None, IfSome, subst, sym}
+use Rattle.std.proofs.Common.{ap}
 use Rattle.std.specs.Prelude.{◌||◌}
 use Rattle.fed_types.specs.Sites.{Membership}
 use Rattle.audit.specs.Evidence.{SiteRecord}

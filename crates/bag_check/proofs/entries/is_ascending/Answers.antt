@@ -1,4 +1,4 @@
-use Rattle.std.proofs.Common.{◌≡◌, ℕ, true, List, [], take, sym, ap, ◌∙◌, subst, refl}
+use Rattle.std.proofs.Common.{◌≡◌, ℕ, true, List, [], take, sym, ap, ◌∙◌, refl}
 use Rattle.std.specs.Cmp.Lexicographic.{slice_cmp}
 use Rattle.std.specs.Ordering.{nat_cmp}
 use Rattle.std.specs.declared.cmp.Ordering.TheVariants.{Less}
@@ -20,7 +20,7 @@ loop-entry-preserved c =
     let entries = c.args.entries.now in
     let last = c.loop-entry.last.now in
     let less : slice_cmp nat_cmp last entry.path ≡ Less =
-    subst (λ p. slice_cmp nat_cmp last p ≡ Less) c.path.ensures
+    rw (← c.path.ensures)
     (less_from_not_ge (slice_cmp nat_cmp last c.path.result.now)
     (sym c.ge.ensures ∙ c.if-ge.false)) in
     let below : (q : List ℕ) → is_listed q (take c.loop-entry.entry-index entries) ≡ true
@@ -28,7 +28,7 @@ loop-entry-preserved c =
     record {
       text = c.path-last.utf8;
       below =
-          λ q listed. subst (λ p. IsUpTo q p) (sym c.path-last.ensures)
+          λ q listed. rw c.path-last.ensures
           (up_to_next entry.path last q (is_listed q (take c.loop-entry.entry-index entries)) less
           (below q)
           (sym

@@ -1,4 +1,4 @@
-use Rattle.std.proofs.Common.{◌≤◌, length, not, ◌&&◌, ap, sym, subst, ◌∙◌}
+use Rattle.std.proofs.Common.{not, ◌&&◌, ap, sym, ◌∙◌}
 use Rattle.bag_tree.specs.Path.{is_payload}
 use Rattle.bag_tree.specs.Facts.{FileFact}
 use Rattle.bag_check.specs.Check.{is_unlisted}
@@ -19,5 +19,4 @@ pub returns-then-payload_count-entries : goal.returns-then-payload_count-entries
 returns-then-payload_count-entries c =
     sym
     (none_unlisted c.args.entries.now c.args.files.now c.requires.placed c.requires.once
-    c.requires.there (subst (λ n. n ≤ length c.args.entries.now) c.payload_count.ensures
-    c.if-payload_count-entries.true))
+    c.requires.there (rw c.payload_count.ensures at c.if-payload_count-entries.true))

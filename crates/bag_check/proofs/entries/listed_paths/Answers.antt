@@ -1,6 +1,5 @@
-use Rattle.std.proofs.Common.{◌||◌, ap, sym, ◌∙◌}
-use Rattle.std.specs.Str.{bytes_eq}
-use Rattle.bag_check.proofs.Keyed.{has_text, has_text-inserted}
+use Rattle.std.proofs.Common.{sym}
+use Rattle.bag_check.proofs.Keyed.{has_text-inserted}
 use Rattle.bag_check.proofs.Repeats.{listed_next}
 use Rattle.bag_check.proofs.entries.listed_paths.Goals as goal
 
@@ -8,9 +7,10 @@ pub loop-entry-preserved : goal.loop-entry-preserved
 loop-entry-preserved c = λ q.
     let before = c.loop-entry.listed in
     let entry = c.entry-item.result in
-    has_text-inserted c.path.result before c.insert.new.self c.in_ok-insert.ensures.updates q
-    ∙ (ap (λ p. bytes_eq p q || has_text q before) c.path.ensures
-    ∙ (ap (λ t. bytes_eq entry.path q || t) (c.loop-entry.invariant q)
-    ∙ sym
-    (listed_next c.args.entries.now c.loop-entry.entry-index entry c.loop-entry-test.true
-    c.entry-item.is q)))
+    rw (
+      has_text-inserted c.path.result before c.insert.new.self c.in_ok-insert.ensures.updates q,
+      c.path.ensures,
+      c.loop-entry.invariant q,
+    )
+    (sym (listed_next c.args.entries.now c.loop-entry.entry-index entry c.loop-entry-test.true
+    c.entry-item.is q))

@@ -1,10 +1,9 @@
-use Rattle.std.proofs.Common.{◌≡◌, true, false, ◌||◌, ap, sym, ◌∙◌, refl, arith}
-use Rattle.std.specs.Str.{bytes_eq}
+use Rattle.std.proofs.Common.{◌≡◌, true, false, sym, ◌∙◌, refl, arith}
 use Rattle.std.proofs.lemmas.Grind.{common_steps}
 use Rattle.bag_check.specs.Check.{repeats}
 use Rattle.bag_check.proofs.Keyed.{has_text, has_text-inserted}
-use Rattle.bag_check.proofs.Repeats.{listed_next, repeat_found, repeat_passed, not_added}
-use Rattle.bag_check.proofs.Repeats.{newly_added}
+use Rattle.std.proofs.lemmas.Bool.{not-true, not-false}
+use Rattle.bag_check.proofs.Repeats.{listed_next, repeat_found, repeat_passed}
 use Rattle.bag_check.proofs.entries.repeats.Goals as goal
 
 pub loop-entry-init : goal.loop-entry-init
@@ -16,11 +15,10 @@ pub returns-then-not-added : goal.returns-then-not-added
 returns-then-not-added c =
     let entry = c.entry-item.result in
     let there : has_text c.path.result.now c.loop-entry.seen ≡ true =
-    not_added c.in_ok-added.added _ c.in_ok-added.ensures.added c.if-not-added.true in
+    not-false _ (sym c.in_ok-added.ensures.added ∙ c.if-not-added.true) in
     repeat_found c.args.entries.now c.loop-entry.entry-index entry c.loop-entry-test.true
     c.entry-item.is
-    (sym (c.loop-entry.invariant.seen entry.path)
-    ∙ (ap (λ p. has_text p c.loop-entry.seen) (sym c.path.ensures) ∙ there))
+    (sym (c.loop-entry.invariant.seen entry.path) ∙ rw (← c.path.ensures) there)
 
 pub loop-entry-preserved : goal.loop-entry-preserved
 loop-entry-preserved c =
@@ -28,19 +26,19 @@ loop-entry-preserved c =
     let entry = c.entry-item.result in
     let entries = c.args.entries.now in
     let absent : has_text c.path.result.now before ≡ false =
-    newly_added c.in_ok-added.added _ c.in_ok-added.ensures.added c.if-not-added.false in
+    not-true _ (sym c.in_ok-added.ensures.added ∙ c.if-not-added.false) in
     record {
       seen =
-          λ q. has_text-inserted c.path.result before c.insert.new.self
-          c.in_ok-added.ensures.updates q
-          ∙ (ap (λ p. bytes_eq p q || has_text q before) c.path.ensures
-          ∙ (ap (λ t. bytes_eq entry.path q || t) (c.loop-entry.invariant.seen q)
-          ∙ sym
-          (listed_next entries c.loop-entry.entry-index entry c.loop-entry-test.true c.entry-item.is
-          q)));
+          λ q. rw (
+            has_text-inserted c.path.result before c.insert.new.self c.in_ok-added.ensures.updates
+                q,
+            c.path.ensures,
+            c.loop-entry.invariant.seen q,
+          )
+          (sym (listed_next entries c.loop-entry.entry-index entry c.loop-entry-test.true
+          c.entry-item.is q));
       once =
           repeat_passed entries c.loop-entry.entry-index entry c.loop-entry-test.true
           c.entry-item.is c.loop-entry.invariant.once
-          (sym (c.loop-entry.invariant.seen entry.path)
-          ∙ (ap (λ p. has_text p before) (sym c.path.ensures) ∙ absent));
+          (sym (c.loop-entry.invariant.seen entry.path) ∙ rw (← c.path.ensures) absent);
     }

@@ -1,7 +1,6 @@
-use Rattle.std.proofs.Common.{◌≡◌, not, ◌||◌, ap, sym, ◌∙◌, subst}
+use Rattle.std.proofs.Common.{◌≡◌, not, ap, sym, ◌∙◌}
 use Rattle.std.proofs.Common.{arith, append-nil, string_bytes, length, get_or, ◌<◌}
 use Rattle.std.proofs.lemmas.Grind.{common_steps}
-use Rattle.std.specs.Str.{bytes_eq}
 use Rattle.bag_check.proofs.Keyed.{has_text, has_text-inserted}
 use Rattle.bag_explain.specs.Places.{repeated_after}
 use Rattle.bag_explain.proofs.Repeated.{listed_next, repeated_more, repeated_all, by_negation}
@@ -22,21 +21,19 @@ loop-entry-preserved c =
     let files = c.args.listing.now.files in
     let i = c.loop-entry.entry-index in
     let same = c.entries-entry-items.ensures in
-    let within : i < length files = subst (λ es. i < length es) same c.loop-entry-test.true in
-    let is : entry ≡ get_or files i entry =
-    subst (λ es. entry ≡ get_or es i entry) same c.entry-item.is in
+    let within : i < length files = rw same at c.loop-entry-test.true in
+    let is : entry ≡ get_or files i entry = rw same at c.entry-item.is in
     let named = c.path.ensures ∙ ap (λ e. e.path) c.entry.ensures in
     record {
       seen =
-          λ q. has_text-inserted c.path.result before c.insert.new.self
-          c.in_ok-added.ensures.updates q
-          ∙ (ap (λ p. bytes_eq p q || has_text q before) named
-          ∙ (ap (λ t. bytes_eq entry.file.path q || t) (c.loop-entry.invariant.seen q)
-          ∙ sym (listed_next files i entry within is q)));
+          λ q. rw (
+            has_text-inserted c.path.result before c.insert.new.self
+                c.in_ok-added.ensures.updates q,
+            named,
+            c.loop-entry.invariant.seen q,
+          ) (sym (listed_next files i entry within is q));
       printed =
-          repeated_more c.args.listing.now c.entries-entry-items.result.now i same
-          (string_bytes c.args.text.now) (string_bytes c.loop-entry.text)
-          c.loop-entry.invariant.printed entry (string_bytes c.push_path_if.new.text)
+          repeated_more c.args.listing.now _ _ same _ _ c.loop-entry.invariant.printed entry _
           (not c.in_ok-added.added) c.loop-entry-test.true c.entry-item.is
           (by_negation c.in_ok-added.added _ _ c.in_ok-added.ensures.added
           (ap (λ p. has_text p before) named ∙ c.loop-entry.invariant.seen entry.file.path))
@@ -45,6 +42,5 @@ loop-entry-preserved c =
 
 pub returns : goal.returns
 returns c =
-    repeated_all c.args.listing.now c.entries-entry-items.result.now c.loop-entry.entry-index
-    c.entries-entry-items.ensures (string_bytes c.args.text.now) (string_bytes c.loop-entry.text)
+    repeated_all c.args.listing.now _ _ c.entries-entry-items.ensures _ _
     c.loop-entry.invariant.printed c.loop-entry-test.false

@@ -5,7 +5,6 @@ use Rattle.bag_explain.proofs.read_manifests.read_kind.Goals as goal
 pub returns : goal.returns
 returns c =
     on_ok_weaker c.read-4.result
-    (kind_read c.args.kind c.args.files.now c.args.found.now.items
-    c.read.new.found.items c.read-2.new.found.items c.read-3.new.found.items
-    c.read-4.new.found.items c.in_ok-read.ensures c.in_ok-read-2.ensures c.in_ok-read-3.ensures)
+    (kind_read c.args.kind c.args.files.now _ _ _ _ _ c.in_ok-read.ensures c.in_ok-read-2.ensures
+    c.in_ok-read-3.ensures)
     c.read-4.ensures

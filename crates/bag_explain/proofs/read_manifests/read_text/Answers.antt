@@ -19,22 +19,19 @@ loop-line-preserved c =
     record {
       counted = ap (λ (n : ℕ). n + 1) counted;
       malformed =
-          malformed_more c.args.algorithm items c.loop-line.line-index c.loop-line.number
-          (record { ref_ptr = (0, 0); now = [] }) c.loop-line-test.true counted
-          c.loop-line.malformed.items c.read_line.new.malformed.items
-          c.loop-line.invariant.malformed c.in_ok-read_line.ensures.malformed;
+          malformed_more c.args.algorithm items _ _ (record { ref_ptr = (0, 0); now = [] })
+          c.loop-line-test.true counted _ _ c.loop-line.invariant.malformed
+          c.in_ok-read_line.ensures.malformed;
       entries =
-          numbered_more c.args.algorithm items c.loop-line.line-index c.loop-line.number
-          (record { ref_ptr = (0, 0); now = [] }) c.loop-line-test.true counted
-          c.loop-line.entries.items c.read_line.new.entries.items
-          c.loop-line.invariant.entries c.in_ok-read_line.ensures.entries;
+          numbered_more c.args.algorithm items _ _ (record { ref_ptr = (0, 0); now = [] })
+          c.loop-line-test.true counted _ _ c.loop-line.invariant.entries
+          c.in_ok-read_line.ensures.entries;
     }
 
 pub returns : goal.returns
 returns c =
     all_read
     (record { kind = c.args.kind; algorithm = c.args.algorithm; text = c.args.text.now })
-    c.deref-line-items.result.now c.loop-line.line-index c.loop-line.malformed.items
-    c.loop-line.entries.items c.new.result c.loop-line-test.false
+    _ _ _ _ _ c.loop-line-test.false
     (ap texts_of c.deref-line-items.ensures.value ∙ c.in_ok-lines.ensures)
     c.loop-line.invariant.malformed c.loop-line.invariant.entries c.new.ensures

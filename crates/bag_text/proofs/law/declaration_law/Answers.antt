@@ -3,12 +3,10 @@ use Rattle.bag_text.proofs.DeclarationLaws.{declares-read, read-declares, fault-
 use Rattle.bag_text.proofs.law.declaration_law.Goals as goal
 
 pub returns-clause-declared : goal.returns-clause-declared
-returns-clause-declared c =
-    λ text version encoding. (
-      read-declares (lines_of text) (version, encoding),
-      declares-read
-          (lines_of text) (version, encoding),
-    )
+returns-clause-declared c = λ text version encoding. (
+  read-declares (lines_of text) (version, encoding),
+  declares-read (lines_of text) (version, encoding),
+)
 
 pub returns-clause-malformed : goal.returns-clause-malformed
 returns-clause-malformed c =

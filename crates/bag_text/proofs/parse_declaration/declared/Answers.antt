@@ -12,8 +12,7 @@ returns-then-is_empty-2-clause-exact c =
     rw (
       c.first_line.ensures.lines,
       sym c.in-Some.ensures,
-      lines_of-empty c.first_line.result.1.now
-          c.if-is_empty-2.ensures,
+      lines_of-empty c.first_line.result.1.now c.if-is_empty-2.ensures,
     ) refl
 
 pub returns-then-not-is_empty-clause-exact : goal.returns-then-not-is_empty-clause-exact
@@ -23,8 +22,7 @@ returns-then-not-is_empty-clause-exact c =
       c.first_line.ensures.lines,
       sym c.in-Some.ensures,
       c.first_line-2.ensures.lines,
-      sym
-          c.in-Some-encoding_in.ensures,
+      sym c.in-Some-encoding_in.ensures,
       more.2,
     ) refl
 
@@ -34,8 +32,6 @@ returns-clause-exact c =
       c.first_line.ensures.lines,
       sym c.in-Some.ensures,
       c.first_line-2.ensures.lines,
-      sym
-          c.in-Some-encoding_in.ensures,
-      lines_of-empty c.first_line-2.result.1.now
-          c.if-not-is_empty.ensures,
+      sym c.in-Some-encoding_in.ensures,
+      lines_of-empty c.first_line-2.result.1.now c.if-not-is_empty.ensures,
     ) refl

@@ -1,5 +1,5 @@
 use Rattle.std.proofs.Common.{sym}
-use Rattle.bag_text.proofs.Lists.{take_rest}
+use Rattle.std.proofs.lemmas.List.{take_rest}
 use Rattle.bag_text.proofs.PathLaws.{unescaped-escape, unescaped-other}
 use Rattle.bag_text.proofs.path.next_byte.Goals as goal
 

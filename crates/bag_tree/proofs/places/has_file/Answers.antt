@@ -1,6 +1,3 @@
-use Rattle.std.proofs.Common.{◌∙◌, ℕ, List, length, ap, sym, refl}
-use Rattle.std.proofs.lemmas.Option.{slice_get_past, slice_get_read}
-use Rattle.std.specs.Str.{bytes_eq}
 use Rattle.bag_tree.specs.inner.Places.{is_at}
 use Rattle.bag_tree.proofs.PlaceLaws.{found_nothing, found_no_file, found_file}
 use Rattle.bag_tree.proofs.places.has_file.Goals as goal
@@ -14,15 +11,12 @@ pub returns-in-None-get : goal.returns-in-None-get
 returns-in-None-get c =
     found_no_file is_at c.args.files.now c.args.by_path.now c.requires c.args.path.now
     c.in-Some.place.now c.in-Some.ensures.value
-    (sym (slice_get_past c.args.files.now c.in-Some.place.now c.in-None-get.ensures.lookup.3))
+    c.in-None-get.ensures.lookup.3
 
 pub returns-in-Some-get : goal.returns-in-Some-get
 returns-in-Some-get c =
-    let files = c.args.files.now in
     let found =
-    found_file is_at files c.args.by_path.now c.requires c.args.path.now c.in-Some.place.now
-    c.in-Some-get.file.now c.in-Some.ensures.value
-    (sym
-    (slice_get_read files (length files) c.in-Some.place.now c.in-Some-get.file.now refl
-    c.in-Some-get.ensures.lookup.3.0 c.in-Some-get.ensures.lookup.1)) in
-    c.eq.ensures ∙ (ap (λ (p : List ℕ). bytes_eq p c.args.path.now) c.path.ensures ∙ found)
+    found_file is_at c.args.files.now c.args.by_path.now c.requires c.args.path.now
+    c.in-Some.place.now c.in-Some-get.file.now c.in-Some.ensures.value
+    c.in-Some-get.ensures.lookup.3.0 c.in-Some-get.ensures.lookup.1 in
+    rw (c.eq.ensures, c.path.ensures) found

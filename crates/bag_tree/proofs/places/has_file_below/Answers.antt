@@ -1,5 +1,3 @@
-use Rattle.std.proofs.Common.{◌∙◌, ℕ, List, length, ap, sym, refl}
-use Rattle.std.proofs.lemmas.Option.{slice_get_past, slice_get_read}
 use Rattle.bag_tree.specs.Path.{is_below}
 use Rattle.bag_tree.proofs.PlaceLaws.{found_nothing, found_no_file, found_file}
 use Rattle.bag_tree.proofs.places.has_file_below.Goals as goal
@@ -13,18 +11,17 @@ pub returns-in-None-get : goal.returns-in-None-get
 returns-in-None-get c =
     found_no_file is_below c.args.files.now c.args.by_folder.now c.requires c.args.folder.now
     c.in-Some.place.now c.in-Some.ensures.value
-    (sym (slice_get_past c.args.files.now c.in-Some.place.now c.in-None-get.ensures.lookup.3))
+    c.in-None-get.ensures.lookup.3
 
 pub returns-in-Some-get : goal.returns-in-Some-get
 returns-in-Some-get c =
-    let files = c.args.files.now in
     let found =
-    found_file is_below files c.args.by_folder.now c.requires c.args.folder.now c.in-Some.place.now
-    c.in-Some-get.file.now c.in-Some.ensures.value
-    (sym
-    (slice_get_read files (length files) c.in-Some.place.now c.in-Some-get.file.now refl
-    c.in-Some-get.ensures.lookup.3.0 c.in-Some-get.ensures.lookup.1)) in
-    c.lies_below.ensures
-    ∙ (ap (λ (p : List ℕ). is_below p c.as_bytes-in-Some-get.result.now) c.as_bytes.ensures.value
-    ∙ (ap (λ (p : List ℕ). is_below c.args.folder.now p)
-    (c.as_bytes-in-Some-get.ensures.value ∙ c.path.ensures) ∙ found))
+    found_file is_below c.args.files.now c.args.by_folder.now c.requires c.args.folder.now
+    c.in-Some.place.now c.in-Some-get.file.now c.in-Some.ensures.value
+    c.in-Some-get.ensures.lookup.3.0 c.in-Some-get.ensures.lookup.1 in
+    rw (
+      c.lies_below.ensures,
+      c.as_bytes.ensures.value,
+      c.as_bytes-in-Some-get.ensures.value,
+      c.path.ensures,
+    ) found

@@ -1,8 +1,7 @@
-use Rattle.std.proofs.Common.{◌≡◌, ◌⊎◌, ℕ, ◌<◌, true, List, length, Some}
-use Rattle.std.specs.BTreeMap.{get_by_text}
-use Rattle.std.specs.List.{list_any}
+use Rattle.std.proofs.Common.{◌≡◌, ℕ, ◌<◌, true, List, length}
 use Rattle.bag_tree.specs.Path.{is_below}
 use Rattle.bag_tree.specs.inner.Places.{FindsEach}
+use Rattle.bag_tree.proofs.PlaceLaws.{Leads}
 use Rattle.bag_tree.proofs.places.lead_folders.Given as goal
 
 -- the folders that end before here lead to a file
@@ -10,6 +9,5 @@ abbrev pub invariant-loop-end : goal.invariant-loop-end
 invariant-loop-end l = record {
   each : FindsEach is_below l.files l.by_folder;
   added : (folder : List ℕ) → length folder < l.end → is_below folder l.path ≡ true
-      → (get_by_text l.by_folder folder ≡ Some (length l.files))
-      ⊎ (list_any (λ file. is_below folder file.path) l.files ≡ true);
+      → Leads is_below l.files l.by_folder folder;
 }

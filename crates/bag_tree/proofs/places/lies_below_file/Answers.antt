@@ -1,6 +1,5 @@
-use Rattle.std.proofs.Common.{◌≡◌, ◌∙◌, ℕ, List, length, take, get_or, ap, sym, false, arith}
+use Rattle.std.proofs.Common.{◌≡◌, ◌∙◌, length, take, ap, sym, false, arith}
 use Rattle.std.specs.List.{list_any}
-use Rattle.bag_tree.specs.Path.{parts_of}
 use Rattle.bag_tree.specs.Tree.{File}
 use Rattle.bag_tree.specs.inner.Places.{is_at}
 use Rattle.bag_tree.proofs.Below.{below_at, below_parts, next_folder}
@@ -13,9 +12,9 @@ pub returns-then-part_count-gt-DEEPEST_PATH : goal.returns-then-part_count-gt-DE
 returns-then-part_count-gt-DEEPEST_PATH c =
     let path = c.args.path.now in
     let end = c.loop-end.end in
-    let count = c.part_count.ensures
-    ∙ ap (λ (p : List ℕ). length (parts_of p))
-    (c.as_bytes.ensures.value ∙ (c.range-folder.ensures.value ∙ from_start path end)) in
+    let count =
+    rw (c.as_bytes.ensures.value, c.range-folder.ensures.value, from_start path end) at
+    c.part_count.ensures in
     sym
     (none_deeper c.args.files.now path end
     (omega (arith, count, c.if-part_count-gt-DEEPEST_PATH.true)) c.requires.deepest
@@ -30,10 +29,9 @@ returns-then-has_file c =
     sym
     (some_below c.args.files.now (take end path) path
     (below_at path end (omega (arith, c.loop-end-test.true, size))
-    (ap (λ (b : List ℕ). get_or b end 0) (sym is) ∙ c.if-bytes-end-eq47.true))
-    (ap (λ (p : List ℕ). list_any (λ (file : File). is_at p file.path) c.args.files.now)
-    (sym (c.range-folder.ensures.value ∙ from_start path end))
-    ∙ (sym c.has_file.ensures ∙ c.if-has_file.true)))
+    (rw is at c.if-bytes-end-eq47.true))
+    (rw (c.range-folder.ensures.value, from_start path end) at
+    (sym c.has_file.ensures ∙ c.if-has_file.true)))
 
 pub loop-end-preserved : goal.loop-end-preserved
 loop-end-preserved c =
@@ -42,13 +40,10 @@ loop-end-preserved c =
     c.args.path.now c.loop-end.end c.loop-end.invariant
     (λ here. elim c.if-bytes-end-eq47.branch [
       | then-bytes-end-eq47+else-part_count-gt-DEEPEST_PATH+else-has_file w ↦
-          ap (λ (p : List ℕ). list_any (λ (file : File). is_at p file.path) c.args.files.now)
-          (sym (w.range-folder.ensures.value ∙ from_start c.args.path.now c.loop-end.end))
-          ∙ (sym w.has_file.ensures ∙ w.if-has_file.false)
+          rw (w.range-folder.ensures.value, from_start c.args.path.now c.loop-end.end) at
+          (sym w.has_file.ensures ∙ w.if-has_file.false)
       | else-bytes-end-eq47 w ↦
-          absurd
-          (w.if-bytes-end-eq47.false
-          (ap (λ (b : List ℕ). get_or b c.loop-end.end 0) c.as_bytes-bytes.ensures.value ∙ here))
+          absurd (w.if-bytes-end-eq47.false (rw c.as_bytes-bytes.ensures.value here))
     ])
 
 pub returns : goal.returns

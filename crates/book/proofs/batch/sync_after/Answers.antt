@@ -1,7 +1,6 @@
-use Rattle.std.proofs.Common.{◌∙◌, take, drop, Option, ap, subst}
+use Rattle.std.proofs.Common.{◌∙◌, take, drop, Option, ap}
 use Rattle.std.proofs.lemmas.List.{take-append-drop}
 use Rattle.cell_device.specs.Images.{Image}
-use Rattle.records.specs.Records.{AreRecords}
 use Rattle.book.specs.Batches.{all_bytes}
 use Rattle.book.specs.inner.Sound.{seen_of}
 use Rattle.book.proofs.Commits.{rests}
@@ -31,8 +30,7 @@ returns-in_err-append_synced-clause-syncs g c =
     c.args.synced c.args.cell.now c.requires.held
     (is_some c.args.records.now c.args.synced c.is_empty.result c.is_empty.ensures
     c.if-is_empty.false) c.append_synced.new.cell c.deref.result.now
-    (subst AreRecords (after_is c.args.records.now c.args.synced)
-    c.in_ok-bytes.ensures.sound)
+    (rw (after_is c.args.records.now c.args.synced) at c.in_ok-bytes.ensures.sound)
     (c.deref.ensures.value ∙ c.in_ok-bytes.ensures.bytes
     ∙ ap all_bytes (after_is c.args.records.now c.args.synced))
     c.append_synced.ensures.any_moment failed.field-0.0
@@ -48,8 +46,7 @@ returns-clause-held g c =
     let n = c.args.synced in
     holds_all owner (take n all) (drop n all) old (g.C.Cell.device c.append_synced.new.cell).image
     c.deref.result.now all c.requires.held
-    (subst AreRecords (after_is c.args.records.now c.args.synced)
-    c.in_ok-bytes.ensures.sound)
+    (rw (after_is c.args.records.now c.args.synced) at c.in_ok-bytes.ensures.sound)
     (c.deref.ensures.value ∙ c.in_ok-bytes.ensures.bytes
     ∙ ap all_bytes (after_is c.args.records.now c.args.synced))
     (take-append-drop n all)
@@ -64,8 +61,8 @@ returns-clause-syncs g c =
     c.args.synced c.args.cell.now c.requires.held
     (is_some c.args.records.now c.args.synced c.is_empty.result c.is_empty.ensures
     c.if-is_empty.false) c.append_synced.new.cell
-    c.deref.result.now (subst AreRecords (after_is c.args.records.now c.args.synced)
-    c.in_ok-bytes.ensures.sound)
+    c.deref.result.now
+    (rw (after_is c.args.records.now c.args.synced) at c.in_ok-bytes.ensures.sound)
     (c.deref.ensures.value ∙ c.in_ok-bytes.ensures.bytes
     ∙ ap all_bytes (after_is c.args.records.now c.args.synced))
     c.append_synced.ensures.any_moment (returns-clause-held g c) synced.ensures.cause

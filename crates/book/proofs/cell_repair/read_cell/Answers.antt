@@ -1,22 +1,12 @@
-use Rattle.std.proofs.Common.{List, ℕ, Ok, sym, subst}
+use Rattle.std.proofs.Common.{Ok}
 use Rattle.cell_device.specs.Time.{LeavesOnly}
-use Rattle.records.specs.Journals.{DecodesTo}
 use Rattle.book.proofs.Commits.{leaves_text, recovers}
 use Rattle.book.specs.Opened.{LeavesAlike}
 use Rattle.book.specs.OpenBooks.{ReadSays}
-use Rattle.book.proofs.Alike.{said_seen, answered, synced, repaired}
+use Rattle.book.proofs.Alike.{said_seen, repaired}
 use Rattle.book.proofs.cell_repair.read_cell.Given.{Over}
 use Rattle.book.proofs.cell_repair.read_cell.Goals.{After-header, After-repair}
 use Rattle.book.proofs.cell_repair.read_cell.Goals as goal
-
-pub returns-in_err-journal-clause-only : goal.returns-in_err-journal-clause-only
-returns-in_err-journal-clause-only g c = λ said.
-    let read = c.in_ok-bytes in
-    answered c.args.owner.now (g.C.Cell.device c.args.cell.now).image read.bytes.items
-    c.in_err-journal.field-0.0 c.from_residual-in_err-journal.result read.ensures.read
-    (λ other says. c.in_err-journal.ensures.only other
-    (subst (λ (b : List ℕ). DecodesTo c.args.owner.now b other) (sym c.deref.ensures.value) says))
-    c.from_residual-in_err-journal.ensures.1 said
 
 -- what was read says the journal's records
 says : (g : Over) (c : After-header g)
@@ -37,21 +27,10 @@ leaves g c =
     c.in_ok-journal.journal.records.items (says g (goal.at.After-repair g c).After-header)
     c.in_ok-bytes.ensures.does c.in_ok-sync.ensures.does c.repair.ensures.any_moment
 
-pub returns-clause-records : goal.returns-clause-records
-returns-clause-records g c = says g (goal.at.returns-clause-records g c).After-header
-
 pub returns-clause-durable : goal.returns-clause-durable
 returns-clause-durable g c =
     leaves_text c.args.owner.now c.in_ok-journal.journal.records.items
     (g.C.Cell.device c.repair.new.cell).image c.in_ok-repair.ensures.repaired
-
-pub returns-in_err-sync-clause-any_moment : goal.returns-in_err-sync-clause-any_moment
-returns-in_err-sync-clause-any_moment g c =
-    synced c.args.owner.now g.C.Cell.device g.met.C.Cell.only_now c.args.cell.now
-    c.in_ok-bytes.bytes c.sync.result c.load.new.self c.sync.new.self
-    c.in_ok-journal.journal.records.items
-    (says g (goal.at.returns-in_err-sync-clause-any_moment g c).After-header)
-    c.in_ok-bytes.ensures.does c.sync.ensures.does
 
 pub returns-in_err-repair-clause-any_moment : goal.returns-in_err-repair-clause-any_moment
 returns-in_err-repair-clause-any_moment g c =

@@ -1,26 +1,12 @@
-use Rattle.std.proofs.Common.{Option, ◌≡◌, ◌++◌, List, ℕ, take, drop, sym, ap, subst, ◌∙◌}
+use Rattle.std.proofs.Common.{Option, ◌≡◌, ◌++◌, List, ℕ, take, drop, ap, ◌∙◌, Ok}
 use Rattle.cell_device.specs.Images.{Image, IfKnown}
 use Rattle.records.specs.Layout.{header_bytes}
 use Rattle.records.specs.Journals.{DecodesTo}
-use Rattle.records.specs.Texts.{IsTextOf}
-use Rattle.std.proofs.Common.{Ok}
 use Rattle.records.proofs.Walk.{from, from_is}
 use Rattle.book.proofs.Commits.{ok_holds}
 use Rattle.book.proofs.Moments.{joined}
 use Rattle.book.proofs.Repairs.{cutting, appending_says, still_rests}
 use Rattle.book.proofs.cell_repair.repair.Goals as goal
-
-pub returns-in_err-cut_synced-clause-any_moment : goal.returns-in_err-cut_synced-clause-any_moment
-returns-in_err-cut_synced-clause-any_moment g c =
-    cutting c.args.owner.now c.args.bytes.now c.args.journal.now.records.items
-    c.find_repair-mend.result c.find_repair-mend.ensures g.C.Cell.device g.met.C.Cell.only_now
-    c.args.cell.now c.cut_synced.new.cell c.cut_synced.ensures.any_moment
-
-pub returns-then-mend-header-clause-any_moment : goal.returns-then-mend-header-clause-any_moment
-returns-then-mend-header-clause-any_moment g c =
-    cutting c.args.owner.now c.args.bytes.now c.args.journal.now.records.items
-    c.find_repair-mend.result c.find_repair-mend.ensures g.C.Cell.device g.met.C.Cell.only_now
-    c.args.cell.now c.cut_synced.new.cell c.cut_synced.ensures.any_moment
 
 pub returns-clause-repaired : goal.returns-clause-repaired
 returns-clause-repaired g c =
@@ -37,7 +23,7 @@ returns-clause-repaired g c =
     c.in_ok-cut_synced.ensures.kept in
     ok_holds owner rs c.append_synced.result (text ++ from c.args.header.now mend.result.from)
     (image c.append_synced.new.cell)
-    (subst (λ (b : List ℕ). IsTextOf owner rs (text ++ b)) (sym same) mend.ensures.text)
+    (rw same mend.ensures.text)
     (c.append_synced.ensures.kept text rest)
 
 pub returns-clause-any_moment : goal.returns-clause-any_moment

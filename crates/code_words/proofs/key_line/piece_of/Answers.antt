@@ -20,13 +20,15 @@ returns c =
     (λ word. slice_split (λ byte. not (is_ascii_alphanumeric byte)) word.now) _
     (λ x u q k. (
       search (rules, tests),
-      λ j becomes. YieldsList-from_slice_split _ (λ byte. not (is_ascii_alphanumeric byte)) x.now.now
+      λ j becomes. YieldsList-from_slice_split _ (λ byte. not (is_ascii_alphanumeric byte))
+          x.now.now
           (search (rules, tests)) (search (rules, tests)) (search (rules, tests))
           (λ y r p l. search (rules, tests)),
     ))
     (YieldsList-at c.flat_map.ensures.source
     (YieldsList-from_slice c.args.words.now c.iter.ensures.rest))
-    c.flat_map.ensures.closure c.flat_map.ensures.front c.flat_map.ensures.back c.flat_map.ensures.done))
+    c.flat_map.ensures.closure c.flat_map.ensures.front c.flat_map.ensures.back
+    c.flat_map.ensures.done))
     c.filter.ensures.closure (λ x r q k. search (rules, tests)))
     ∙ ap (λ pieces. slice_get (filter (λ piece. not (length piece == 0)) pieces) c.args.number)
     (sym

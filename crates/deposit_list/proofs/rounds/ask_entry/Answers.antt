@@ -26,6 +26,7 @@ returns-in_err-reply g c =
 pub returns : goal.returns
 returns g c =
     stepped c.args.asked.now c.args.entry.now (g.P.Port.traffic c.args.port.now)
-    c.in_ok-path.path c.in_ok-reply.reply c.after-entry.result (g.P.Port.traffic c.ask_about.new.port)
+    c.in_ok-path.path c.in_ok-reply.reply c.after-entry.result
+    (g.P.Port.traffic c.ask_about.new.port)
     (sym c.is_settled.ensures ∙ c.if-is_settled.false) c.in_ok-path.ensures
     c.in_ok-reply.ensures c.after-entry.ensures

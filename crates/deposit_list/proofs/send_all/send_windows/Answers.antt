@@ -63,12 +63,14 @@ overflow_add-reached g c =
           c.in_ok-entries.entries.items) c.in_ok-entries.entries.items
           (g.T.Timer.beats c.args.timer.now) (g.T.Timer.beats c.ask_window.new.timer)
           (g.P.Port.traffic c.args.port.now) (g.P.Port.traffic c.ask_window.new.port)
-          (g.W.CountedWrite.contents c.args.output.now) (g.W.CountedWrite.contents c.loop-rest.output)
+          (g.W.CountedWrite.contents c.args.output.now) (g.W.CountedWrite.contents
+          c.loop-rest.output)
           (one_more_window c.args.aim c.args.asked.now c.args.deposits.now
           (g.T.Timer.beats c.args.timer.now) (g.T.Timer.beats c.loop-rest.timer)
           (g.T.Timer.beats c.ask_window.new.timer) (g.P.Port.traffic c.args.port.now)
           (g.P.Port.traffic c.loop-rest.port) (g.P.Port.traffic c.ask_window.new.port)
-          (g.W.CountedWrite.contents c.args.output.now) (g.W.CountedWrite.contents c.loop-rest.output)
+          (g.W.CountedWrite.contents c.args.output.now) (g.W.CountedWrite.contents
+          c.loop-rest.output)
           c.loop-rest.rest.now c.split_at.result.0.now c.split_at.result.1.now c.loop-rest.reached
           c.in_ok-entries.entries (some_left c.loop-rest.rest.now c.loop-rest-test.ensures)
           c.split_at.ensures.by_index.0 (c.split_at.ensures.front_len ∙ (c.min.ensures
@@ -79,7 +81,8 @@ overflow_add-reached g c =
 pub loop-rest-preserved : goal.loop-rest-preserved
 loop-rest-preserved g c = (
   rw (c.reached_in-reached.ensures
-      ∙ ap (reached_in c.args.aim) c.as_slice-in-loop-rest.ensures.value) (lines_written c.args.aim c.args.asked.now c.args.deposits.now
+      ∙ ap (reached_in c.args.aim) c.as_slice-in-loop-rest.ensures.value)
+      (lines_written c.args.aim c.args.asked.now c.args.deposits.now
       (g.T.Timer.beats c.args.timer.now) (g.T.Timer.beats c.loop-rest.timer)
       (g.T.Timer.beats c.ask_window.new.timer) (g.P.Port.traffic c.args.port.now)
       (g.P.Port.traffic c.loop-rest.port) (g.P.Port.traffic c.ask_window.new.port)

@@ -1,29 +1,33 @@
 use Rattle.std.proofs.Common.{refl, arith}
-use Rattle.dgram.proofs.Whole.{is_found, ok_only, ok_malformed}
-use Rattle.dgram.proofs.Whole.{Faulted, faulted, err_only, err_memory, err_malformed}
-use Rattle.dgram.proofs.MessageOf.{message_of-is, short_none, others_none, err_message}
+use Rattle.dgram.proofs.Whole.{is_found, ok_only, ok_malformed, Faulted, answer_of, err_only}
+use Rattle.dgram.proofs.Whole.{err_memory, err_malformed}
+use Rattle.dgram.proofs.MessageOf.{message_of-is, no_message, short_message, err_message}
 use Rattle.dgram.proofs.decoder.decode.Goals.{After-from_residual}
 use Rattle.dgram.proofs.decoder.decode.Goals as goal
 
 pub returns-then-bytes-lt-FRONT-clause-message : goal.returns-then-bytes-lt-FRONT-clause-message
 returns-then-bytes-lt-FRONT-clause-message c =
-    short_none c.args.federation c.args.bytes.now (λ i. omega (arith, c.type_inv.bytes i))
-    c.if-bytes-lt-FRONT.true
+    no_message c.args.federation c.args.bytes.now (λ i. omega (arith, c.type_inv.bytes i))
+    (short_message c.args.federation c.args.bytes.now c.if-bytes-lt-FRONT.true)
 
 pub returns-then-not-is_ours-clause-message : goal.returns-then-not-is_ours-clause-message
 returns-then-not-is_ours-clause-message c =
-    others_none c.args.federation c.args.bytes.now (λ i. omega (arith, c.type_inv.bytes i))
-    (λ ours. let t = c.if-not-is_ours.ensures.1 ours in absurd cc)
+    no_message c.args.federation c.args.bytes.now (λ i. omega (arith, c.type_inv.bytes i))
+    (λ m d. absurd (cc (c.if-not-is_ours.ensures.1 (rw d.1 (refl, refl)))))
 
 -- reading ended in a fault
 fails : (c : After-from_residual)
     → Faulted c.args.federation c.args.bytes.now c.in_err-read_datagram.field-0.0
     c.from_residual.result
 fails c =
-    let known = c.in_err-read_datagram.ensures in
-    faulted c.args.federation c.args.bytes.now c.in_err-read_datagram.field-0.0
-    c.from_residual.result (λ i. omega (arith, c.type_inv.bytes i)) c.if-bytes-lt-FRONT.false
-    (c.if-not-is_ours.ensures.0 refl) known.gives known.memory c.from_residual.ensures.1
+    record {
+      fits = λ i. omega (arith, c.type_inv.bytes i);
+      long = c.if-bytes-lt-FRONT.false;
+      ours = c.if-not-is_ours.ensures.0 refl;
+      gives = c.in_err-read_datagram.ensures.gives;
+      memory = λ e. c.in_err-read_datagram.ensures.memory (rw e);
+      answer = answer_of _ _ c.from_residual.ensures.1;
+    }
 
 pub returns-in_err-read_datagram-clause-message : goal.returns-in_err-read_datagram-clause-message
 returns-in_err-read_datagram-clause-message c =

@@ -1,7 +1,6 @@
-use Rattle.std.proofs.Common.{◌≡◌, ◌+◌, List, ℕ, length, subst, ap, arith, length-append}
+use Rattle.std.proofs.Common.{◌≡◌, ◌+◌, length, ap, arith, length-append}
 use Rattle.std.specs.Prelude.{vec_len}
 use Rattle.fields.specs.Checksums.{checksum}
-use Rattle.fields.specs.Puts.{Puts}
 use Rattle.dgram.specs.Encoding.{message_bytes}
 use Rattle.dgram.proofs.Appends.{appended_items, puts_both}
 use Rattle.dgram.proofs.encoder.put_datagram.Goals as goal
@@ -17,5 +16,5 @@ returns c =
     omega (arith, old.ok, mid.ok, ap length first, length-append old.items a) in
     let from : c.len-from.result ≡ length old.items = omega (arith, c.len-from.ensures, old.ok) in
     puts_both old mid new a first c.put_message.ensures.room lens c.put_checksum.result (checksum a)
-    (subst (λ (b : List ℕ). Puts c.put_checksum.result mid new (checksum b))
-    (appended_items mid.items old.items a c.len-from.result first from) c.put_checksum.ensures)
+    (rw (appended_items mid.items old.items a c.len-from.result first from)
+    at c.put_checksum.ensures)

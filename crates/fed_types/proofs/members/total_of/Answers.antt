@@ -1,16 +1,25 @@
-use Rattle.std.proofs.Common.{◌≡◌, ◌-◌, suc, arith, slice_index}
-use Rattle.fed_types.proofs.Sums.{sum_none, sum_next}
+use Rattle.std.proofs.Common.{◌≡◌, ◌-◌, suc, arith, slice_index, refl}
+use Rattle.std.proofs.Math.Numerals.{add-one}
+use Rattle.std.proofs.lemmas.List.Sums.{sum_by_push}
+use Rattle.fed_types.specs.Sites.{sites_to}
 use Rattle.fed_types.proofs.members.total_of.Goals as goal
 
 pub loop-weight-init : goal.loop-weight-init
-loop-weight-init c = (sum_none (λ site. slice_index c.args.weights.now (site - 1)), omega arith)
+unfolding sites_to
+loop-weight-init c = (refl, omega arith)
 
 pub loop-weight-preserved : goal.loop-weight-preserved
+unfolding sites_to
 loop-weight-preserved c =
     let back : suc c.loop-weight.weight-index - 1 ≡ c.loop-weight.weight-index = omega arith in (
-      sum_next (λ site. slice_index c.args.weights.now (site - 1)) c.loop-weight.weight-index
-          c.loop-weight.total c.from-total.result c.loop-weight.invariant.0
-          (rw back c.from-total.ensures),
+      rw (
+        add-one,
+        sum_by_push (λ site. slice_index c.args.weights.now (site - 1))
+            (sites_to c.loop-weight.weight-index) (suc c.loop-weight.weight-index),
+        back,
+        c.from-total.ensures,
+        c.loop-weight.invariant.0,
+      ),
       omega (
         arith,
         c.loop-weight.invariant.1,

@@ -6,7 +6,8 @@ use Rattle.folder_checks.proofs.explanation.answer_on.Goals as goal
 
 pub returns-in-Ok-clause-ok : goal.returns-in-Ok-clause-ok
 returns-in-Ok-clause-ok g c =
-    read_known c.args.question (g.F.Folders.gives c.args.folders.now) (g.F.Folders.fails_at c.args.folders.now)
+    read_known c.args.question (g.F.Folders.gives c.args.folders.now)
+    (g.F.Folders.fails_at c.args.folders.now)
     c.args.path.now c.compute_digests.new.self c.answer_of.result
     (rw c.compute_digests.ensures c.in-Ok.ensures.known) c.answer_of.ensures
 

@@ -1,7 +1,7 @@
 use Rattle.std.proofs.Common.{sym, ◌∙◌, arith}
 use Rattle.std.proofs.lemmas.List.Elements.{All-from_get_or}
 use Rattle.percent_encoding.proofs.PercentLemmas.{IsByte}
-use Rattle.words.proofs.EscapeLemmas.{escaped_text-is}
+use Rattle.tokens.proofs.EscapeLemmas.{escaped_text-is}
 use Rattle.folder_checks.proofs.named.push_escaped_bytes.Goals as goal
 
 pub returns : goal.returns

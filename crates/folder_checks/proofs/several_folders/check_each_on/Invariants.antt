@@ -15,4 +15,5 @@ invariant-loop-path g l =
     × AreReports l.report gives (g.F.Folders.fails_at l.fn.folders)
     (take l.path-index (map (λ path. path.now) l.paths)) outcomes
     × (l.all_valid ≡ all_valid outcomes)
-    × Appends (g.W.CountedWrite.contents l.fn.output) (g.W.CountedWrite.contents l.output) (all_of outcomes).text)
+    × Appends (g.W.CountedWrite.contents l.fn.output) (g.W.CountedWrite.contents l.output)
+    (all_of outcomes).text)

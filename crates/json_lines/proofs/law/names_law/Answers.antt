@@ -1,5 +1,5 @@
 use Rattle.std.proofs.Common.{refl}
-use Rattle.words.proofs.PrintedWords.{text_of-escaped}
+use Rattle.tokens.proofs.PrintedWords.{text_of-escaped}
 use Rattle.json_lines.specs.Forms.{forms}
 use Rattle.json_lines.specs.Json.{line_data}
 use Rattle.json_lines.proofs.Laws.{known_words}

@@ -25,7 +25,7 @@ its : (c : goal.After-as_slice)
     → c.as_slice.result.now ≡ header_of c.args.owner.now c.in-Ok.members.weights
 its c = c.as_slice.ensures.value ∙ c.in_ok-header.ensures.bytes
     ∙ header_under c.args.owner.now c.in-Ok.members
-    (ap (λ (m : Membership). m.federation) c.in-Ok.ensures.value ∙ c.federation.ensures)
+    (rw c.in-Ok.ensures.value c.federation.ensures)
 
 pub begins_with-requires : goal.begins_with-requires
 begins_with-requires c =
@@ -43,11 +43,11 @@ begins_with-requires c =
 pub returns-then-begins_with : goal.returns-then-begins_with
 returns-then-begins_with c = record {
   weights = c.in_ok-header.ensures.sound;
-  federation = ap (λ (m : Membership). m.federation) c.in-Ok.ensures.value ∙ c.federation.ensures;
+  federation = rw c.in-Ok.ensures.value c.federation.ensures;
   bytes_are = begun c.args.owner.now c.args.bytes.now c.as_slice.result.now c.in-Ok.members.weights
       (c.as_slice.ensures.value ∙ c.in_ok-header.ensures.bytes
       ∙ header_under c.args.owner.now c.in-Ok.members
-      (ap (λ (m : Membership). m.federation) c.in-Ok.ensures.value ∙ c.federation.ensures))
+      (rw c.in-Ok.ensures.value c.federation.ensures))
       (c.if-begins_with.ensures.0 refl);
 }
 
@@ -55,13 +55,11 @@ pub returns : goal.returns
 returns c = λ has.
     let owner = c.args.owner.now in
     let bytes = c.args.bytes.now in
-    let named = c.in-Ok.members.weights in
-    let same : named ≡ has.0 = ap (λ (m : Membership). m.weights) c.in-Ok.ensures.value
-    ∙ their_weights owner bytes c.from.result c.from.ensures has.0 has.1 has.3 in
+    let same : c.in-Ok.members.weights ≡ has.0 = rw c.in-Ok.ensures.value
+    (their_weights owner bytes c.from.result c.from.ensures has.0 has.1 has.3) in
     let is : c.as_slice.result.now ≡ header_of owner has.0 =
     c.as_slice.ensures.value ∙ c.in_ok-header.ensures.bytes
-    ∙ header_under owner c.in-Ok.members
-    (ap (λ (m : Membership). m.federation) c.in-Ok.ensures.value ∙ c.federation.ensures)
+    ∙ header_under owner c.in-Ok.members (rw c.in-Ok.ensures.value c.federation.ensures)
     ∙ ap (header_of owner) same in
     let t = c.begins_with.ensures.1
     (begins owner bytes c.as_slice.result.now has.0 is has.1 has.3) in

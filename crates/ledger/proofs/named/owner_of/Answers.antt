@@ -1,7 +1,4 @@
-use Rattle.std.proofs.Common.{subst, refl}
-use Rattle.std.specs.Prelude.{MatchOption}
-use Rattle.records.specs.Journals.{HasHeader}
-use Rattle.ledger.specs.inner.Named.{HasHeaderOf}
+use Rattle.std.proofs.Common.{refl}
 use Rattle.ledger.proofs.Headers.{too_few, no_site, of_nobody, old_begins}
 use Rattle.ledger.proofs.named.owner_of.Goals as goal
 
@@ -26,5 +23,4 @@ returns-in-None c =
     let bytes = c.args.bytes.now in
     of_nobody owner bytes c.in-Some.ensures.0
     (λ is. let t = c.has_old_magic.ensures.1 is in absurd (cc (t, c.if-has_old_magic.false)))
-    (subst (λ o. MatchOption o (¬ HasHeader owner bytes) (λ m. HasHeaderOf owner m bytes))
-    c.in-None.is c.in_ok-header_members.ensures)
+    (rw c.in-None.is at c.in_ok-header_members.ensures)

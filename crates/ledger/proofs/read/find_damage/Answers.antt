@@ -1,6 +1,3 @@
-use Rattle.std.proofs.Common.{sym, subst}
-use Rattle.std.specs.Prelude.{IfOk}
-use Rattle.ledger.specs.inner.Found.{IsDamageFound}
 use Rattle.ledger.proofs.Readings.{says_end, found_damage}
 use Rattle.ledger.proofs.read.find_damage.Goals as goal
 use Rattle.ledger.proofs.read.find_damage.Goals.{in-Ok, in-Err}
@@ -10,11 +7,9 @@ returns c =
     let owner = c.args.owner.now in
     let bytes = c.args.bytes.now in
     elim c.match-read_journal.branch [
-      | in-Ok w ↦
-          subst (λ r. IfOk r (IsDamageFound owner bytes)) (sym w.result-is)
-          (says_end owner bytes _ c.requires.headed w.in-Ok.ensures.said)
+      | in-Ok w ↦ rw w.result-is (says_end owner bytes _ c.requires.headed w.in-Ok.ensures.said)
       | in-Err w ↦
-          subst (λ r. IfOk r (IsDamageFound owner bytes)) (sym w.result-is)
+          rw w.result-is
           (found_damage owner bytes w.in-Err.fault _ c.requires.headed w.in-Err.ensures.said
           w.damage_in.ensures)
     ]

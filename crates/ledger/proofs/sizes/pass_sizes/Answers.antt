@@ -1,7 +1,6 @@
-use Rattle.std.proofs.Common.{arith, subst, Some, None}
+use Rattle.std.proofs.Common.{arith}
 use Rattle.std.proofs.lemmas.List.{length-drop}
 use Rattle.records.proofs.Walk.{from_is}
-use Rattle.ledger.specs.inner.Sizes.{IsSizeAt}
 use Rattle.ledger.proofs.Passages.{left_next, left_end}
 use Rattle.ledger.proofs.sizes.pass_sizes.Goals as goal
 
@@ -10,7 +9,7 @@ loop-size-preserved c =
     let bytes = c.args.bytes.now in
     let len = c.loop-size.len in
     let size = c.in-Some.size in
-    let at = subst (λ b. IsSizeAt b (Some size)) (from_is bytes len) c.in-Some.ensures in (
+    let at = rw (from_is bytes len) at c.in-Some.ensures in (
       omega (arith, at.3, length-drop len bytes, c.loop-size.invariant.0),
       λ l records rest are is stops. left_next l bytes records rest len size stops
           (c.loop-size.invariant.1 l records rest are is stops) at,
@@ -21,4 +20,4 @@ returns-clause-passed c = λ l records rest are is stops.
     let bytes = c.args.bytes.now in
     let len = c.loop-size.len in
     left_end l bytes records rest len (c.loop-size.invariant.1 l records rest are is stops)
-    (subst (λ b. IsSizeAt b None) (from_is bytes len) c.in_default.ensures)
+    (rw (from_is bytes len) at c.in_default.ensures)

@@ -1,14 +1,9 @@
-use Rattle.std.proofs.Common.{◌≡◌, ◌+◌, ◌++◌, ◌∷◌, [], List, ℕ, ap, subst, sym, take, ◌∙◌}
-use Rattle.std.proofs.Common.{append_assoc, append-nil}
+use Rattle.std.proofs.Common.{◌≡◌, ◌+◌, ◌++◌, ◌∷◌, [], List, ℕ, ap, sym, take, ◌∙◌}
+use Rattle.std.proofs.Common.{append_assoc}
 use Rattle.std.proofs.lemmas.List.{take_more}
 use Rattle.records.specs.declared.record.Record.{Record}
-use Rattle.ledger.specs.inner.Rows.{Represents}
 use Rattle.ledger.proofs.Notes.{one_more}
 use Rattle.ledger.proofs.versions.note_all.Goals as goal
-
-pub loop-kept-init : goal.loop-kept-init
-loop-kept-init c = λ before stands.
-    subst (Represents c.args.versions.now) (sym (append-nil before)) stands
 
 pub loop-kept-preserved : goal.loop-kept-preserved
 loop-kept-preserved c = λ before stands.
@@ -18,9 +13,7 @@ loop-kept-preserved c = λ before stands.
     let more : take (i + 1) records ≡ take i records ++ r ∷ [] =
     take_more records i r c.loop-kept-test.true
     ∙ ap (λ (x : Record). take i records ++ x ∷ []) (sym c.kept-item.is) in
-    subst (Represents c.note.new.versions)
-    (append_assoc before (take i records) (r ∷ [])
-    ∙ ap (λ (rs : List Record). before ++ rs) (sym more))
+    rw (more, ← append_assoc before (take i records) (r ∷ []))
     (one_more c.loop-kept.versions c.note.new.versions r
     c.in_ok-note.ensures.slots c.in_ok-note.ensures.rows (before ++ take i records)
     (c.loop-kept.invariant before stands))

@@ -4,7 +4,8 @@ use Rattle.std.proofs.KnownBytes.{Consumes-trans, Consumes-kept}
 use Rattle.ledger.specs.LedgerPieces.{HasNoted, IsLedgerText, IsNoted}
 use Rattle.ledger_commands.proofs.Listings.{read_end, at_end, of_all}
 use Rattle.ledger_commands.proofs.version_lines.read_lines.Goals as goal
-use Rattle.ledger_commands.proofs.version_lines.read_lines.Goals.{in-Ok+in_ok-last-in-Ok+in-None, in-Err+else-ne}
+use Rattle.ledger_commands.proofs.version_lines.read_lines.Goals.{in-Ok+in_ok-last-in-Ok+in-None}
+use Rattle.ledger_commands.proofs.version_lines.read_lines.Goals.{in-Err+else-ne}
 
 pub returns-in-Ok-eq0 : goal.returns-in-Ok-eq0
 returns-in-Ok-eq0 g c =

@@ -1,13 +1,11 @@
-use Rattle.std.proofs.Common.{◌≡◌, ℕ, false, List, [], ◌∷◌, length, map, Bor, refl, sym}
-use Rattle.std.proofs.Common.{ap, ◌∙◌, subst, inl, inr, arith}
-use Rattle.std.specs.List.{Contains}
+use Rattle.std.proofs.Common.{◌≡◌, ℕ, [], ◌∷◌, length, refl, sym, ap, ◌∙◌, subst, inl, inr, arith}
 use Rattle.std.specs.Str.Lines.{lines}
 use Rattle.std.proofs.lemmas.Bool.{cases_lt, false≢true}
 use Rattle.std.proofs.lemmas.Result.{err_from_is_err_and}
-use Rattle.fed_types.specs.Sites.{CountFits, Membership}
-use Rattle.words.specs.Words.{words_of}
+use Rattle.fed_types.specs.Sites.{Membership}
+use Rattle.tokens.specs.Words.{words_of}
 use Rattle.members_file.specs.declared.members_fault.MembersFault.TheVariants.{Line}
-use Rattle.members_file.specs.Files.{HasFault, are_blank, weights_of}
+use Rattle.members_file.specs.Files.{HasFault, weights_of}
 use Rattle.members_file.specs.Lines.{federation_in}
 use Rattle.members_file.proofs.ReadLemmas.{fault_from_ok_or, fault_of_none, fault_of_first}
 use Rattle.members_file.proofs.ReadLemmas.{fault_after, AreListed-read, weights-fit, weights-some}
@@ -32,14 +30,13 @@ first_is c = rw c.in_ok-first.ensures.ok_part at c.first_line.ensures.value
 federation_is : (c : After-parse_federation)
     → federation_in (words_of c.in_ok-first.first.now) ≡ c.parse_federation.result
 federation_is c =
-    let words : map (λ (word : Bor (List ℕ)). word.now) c.deref.result.now
-    ≡ words_of c.in_ok-first.first.now = rw c.deref.ensures.value c.in_ok-words.ensures.value in
-    sym (ap federation_in words) ∙ sym c.parse_federation.ensures
+    let words = rw (← c.deref.ensures.value) at c.in_ok-words.ensures.value in
+    rw (c.parse_federation.ensures, words)
 
 -- the weights are those of the sites
 weights_are : (c : After-deref-3) → c.deref-3.result.now ≡ weights_of c.in_ok-sites.sites.items
 weights_are c =
-    c.deref-3.ensures.value ∙ c.in_ok-weights.ensures ∙ ap weights_of c.deref-2.ensures.value
+    rw (c.deref-3.ensures.value, ← c.deref-2.ensures.value) c.in_ok-weights.ensures
 
 pub returns-in_err-federation : goal.returns-in_err-federation
 returns-in_err-federation c =
@@ -62,37 +59,30 @@ returns-in_default c =
     elim (cases_lt 0 (length sites)) [
       | inl some ↦ absurd
           (false≢true (c.in_default.ensures.ok.1
-          (subst (λ (ws : List ℕ). CountFits ws × ¬ Contains {X = ℕ} ws 0)
-          (sym (weights_are at.After-deref-3))
-          (weights-fit (lines c.in_ok-first.after.now) sites (lines c.in_ok-sites.rest.now)
-          c.in_ok-sites.ensures some))))
+          (rw (weights_are at.After-deref-3) (weights-fit c.in_ok-sites.ensures some))))
       | inr zero ↦ omega arith
     ] in
-    subst (λ (n : ℕ). HasFault c.args.text.now n) (omega (arith, none))
+    subst (λ (n : ℕ). HasFault c.args.text.now n) (omega arith)
     (fault_after c.args.text.now c.in_ok-first.first.now (lines c.in_ok-first.after.now)
     (lines c.in_ok-sites.rest.now) c.in_ok-federation.federation sites
     (first_is at.After-parse_federation)
     (federation_is at.After-parse_federation ∙ c.in_ok-federation.ensures.ok_part)
-    c.in_ok-sites.ensures (λ ends. omega (arith, none, ends.0)))
+    c.in_ok-sites.ensures (λ ends. omega (arith, ends.0)))
 
 pub returns-then-not-branch : goal.returns-then-not-branch
 returns-then-not-branch c =
     let at = (goal.at.returns-then-not-branch c).After-parse_federation in
-    let isnt : are_blank (lines c.in_ok-sites.rest.now) ≡ false =
-    sym c.in_ok-is_blank.ensures ∙ c.if-not-branch.true in
     subst (λ (n : ℕ). HasFault c.args.text.now n) (omega (arith, c.len.ensures))
     (fault_after c.args.text.now c.in_ok-first.first.now (lines c.in_ok-first.after.now)
     (lines c.in_ok-sites.rest.now) c.in_ok-federation.federation c.in_ok-sites.sites.items
     (first_is at) (federation_is at ∙ c.in_ok-federation.ensures.ok_part) c.in_ok-sites.ensures
-    (λ ends. false≢true (sym isnt ∙ ends.1)))
+    (λ ends. cc (c.in_ok-is_blank.ensures, c.if-not-branch.true, ends.1)))
 
 pub new-requires-clause-sites : goal.new-requires-clause-sites
 new-requires-clause-sites c =
-    let sites = c.in_ok-sites.sites.items in
     let weights = weights_are (goal.at.new-requires-clause-sites c).After-deref-3 in
-    AreListed-read (lines c.in_ok-first.after.now) sites (lines c.in_ok-sites.rest.now)
-    c.in_ok-sites.ensures
-    (weights-some sites (subst CountFits weights (c.in-Ok.ensures.ok.0 refl).0))
+    AreListed-read c.in_ok-sites.ensures
+    (weights-some c.in_ok-sites.sites.items (rw weights at (c.in-Ok.ensures.ok.0 refl).0))
 
 pub returns : goal.returns
 returns c =
@@ -104,12 +94,9 @@ returns c =
       first = c.in_ok-first.first.now;
       named = c.in_ok-sites.ensures.named;
       rest = lines c.in_ok-sites.rest.now;
-      is = first_is at
-          ∙ ap (λ (later : List (List ℕ)). c.in_ok-first.first.now ∷ later)
-          c.in_ok-sites.ensures.is;
+      is = rw (← c.in_ok-sites.ensures.is) (first_is at);
       federation = federation_is at ∙ c.in_ok-federation.ensures.ok_part;
       sites = c.in_ok-sites.ensures.sites;
-      some = weights-some c.in_ok-sites.sites.items
-          (subst CountFits weights (c.in-Ok.ensures.ok.0 refl).0);
+      some = weights-some c.in_ok-sites.sites.items (rw weights at (c.in-Ok.ensures.ok.0 refl).0);
       blank = sym c.in_ok-is_blank.ensures ∙ c.if-not-branch.false;
     })

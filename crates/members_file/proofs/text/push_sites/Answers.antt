@@ -1,6 +1,4 @@
-use Rattle.std.proofs.Common.{◌+◌, ◌++◌, ap, ◌∙◌, string_bytes}
-use Rattle.members_file.specs.declared.listed_site.ListedSite.{ListedSite}
-use Rattle.members_file.specs.Texts.{line_of}
+use Rattle.std.proofs.Common.{string_bytes}
 use Rattle.members_file.proofs.Written.{one_more, all_done}
 use Rattle.members_file.proofs.text.push_sites.Goals as goal
 
@@ -9,9 +7,7 @@ loop-place-preserved c =
     one_more c.args.weights c.args.sites.now c.loop-place.place (string_bytes c.args.text.now)
     (string_bytes c.loop-place.text) c.loop-place.invariant c.index-sites-place.result
     (string_bytes c.push_site.new.text) c.loop-place-test.true
-    (c.in_ok-push_site.ensures
-    ∙ ap (λ (site : ListedSite). string_bytes c.loop-place.text
-    ++ line_of c.args.weights (c.loop-place.place + 1) site) c.index-sites-place.is)
+    (rw (← c.index-sites-place.is) c.in_ok-push_site.ensures)
 
 pub returns : goal.returns
 returns c =

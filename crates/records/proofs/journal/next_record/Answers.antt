@@ -1,7 +1,4 @@
-use Rattle.std.proofs.Common.{subst, take, inl, inr}
-use Rattle.fields.specs.declared.fault.FieldFault.{FieldFault}
-use Rattle.fields.specs.Decoders.{Fails}
-use Rattle.records.specs.inner.Steps.{record_before}
+use Rattle.std.proofs.Common.{inl, inr}
 use Rattle.records.proofs.Again.{none_next, whole_next, unread_next}
 use Rattle.records.proofs.journal.next_record.Goals as goal
 
@@ -18,6 +15,4 @@ returns-in-Ok c = whole_next c.args.layout c.args.bytes.now c.in-Whole.size c.in
 pub returns-in-Err-Malformed : goal.returns-in-Err-Malformed
 returns-in-Err-Malformed c =
     unread_next c.args.layout c.args.bytes.now c.in-Whole.size c.in-Whole.ensures
-    (subst (λ (f : FieldFault). Fails f
-    (record_before c.args.layout (take c.in-Whole.size c.args.bytes.now)))
-    c.in-Err-Malformed.field-0-is c.in-Err-Malformed.ensures)
+    (rw c.in-Err-Malformed.field-0-is at c.in-Err-Malformed.ensures)

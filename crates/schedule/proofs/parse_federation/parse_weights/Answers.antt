@@ -1,17 +1,13 @@
-use Rattle.std.proofs.Common.{◌∙◌, sym, ap}
-use Rattle.std.specs.Option.{option_map}
-use Rattle.fed_types.specs.Sites.{membership_of}
-use Rattle.schedule.proofs.WeightLemmas.{AreSoFar-more, AreSoFar-fault}
-use Rattle.schedule.proofs.WeightLemmas.{AreSoFar-all, AreSoFar-weights}
+use Rattle.std.proofs.Common.{sym}
+use Rattle.schedule.proofs.WeightLemmas.{AreSoFar-more, AreSoFar-fault, AreSoFar-all}
+use Rattle.schedule.proofs.WeightLemmas.{AreSoFar-weights}
 use Rattle.schedule.proofs.parse_federation.parse_weights.Goals as goal
 
 pub returns-in_err-weights : goal.returns-in_err-weights
 returns-in_err-weights c =
+    rw (AreSoFar-fault c.args.words.now c.loop-place.place c.loop-place.weights _
+    c.loop-place-test.true (sym c.in_err-weights.ensures.value) c.loop-place.invariant)
     c.from_residual.ensures
-    ∙ ap (option_map (membership_of c.args.federation))
-    (sym (AreSoFar-fault c.args.words.now c.loop-place.place c.loop-place.weights
-    _ c.loop-place-test.true
-    (sym c.in_err-weights.ensures.value) c.loop-place.invariant))
 
 pub loop-place-preserved : goal.loop-place-preserved
 loop-place-preserved c =
@@ -27,7 +23,5 @@ weighted-requires c =
 
 pub returns : goal.returns
 returns c =
-    c.weighted.ensures
-    ∙ ap (option_map (membership_of c.args.federation))
-    (sym (AreSoFar-all c.args.words.now c.loop-place.place c.loop-place.weights
-    c.loop-place-test.false c.loop-place.invariant))
+    rw (AreSoFar-all c.args.words.now c.loop-place.place c.loop-place.weights
+    c.loop-place-test.false c.loop-place.invariant) c.weighted.ensures

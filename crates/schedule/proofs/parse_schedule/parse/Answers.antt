@@ -1,13 +1,11 @@
-use Rattle.std.proofs.Common.{◌≡◌, ℕ, ◌+◌, List, Option, Some, true, false, Ok, refl, sym, ap}
-use Rattle.std.proofs.Common.{map, ◌∙◌, Bor, arith}
+use Rattle.std.proofs.Common.{◌≡◌, ℕ, ◌+◌, List, Option, Some, true, false, Ok, refl, sym, ap, map}
+use Rattle.std.proofs.Common.{◌∙◌, Bor, arith}
 use Rattle.std.specs.Str.Lines.{lines}
 use Rattle.std.proofs.lemmas.Result.{err_from_is_err_and}
-use Rattle.schedule.specs.Commands.{federation_of}
-use Rattle.words.specs.Words.{words_of}
+use Rattle.tokens.specs.Words.{words_of}
 use Rattle.fed_types.specs.Sites.{Membership}
 use Rattle.schedule.specs.declared.command.Command.{Command}
-use Rattle.schedule.specs.Plans.{plan_of, plan_after, plan_with, plan_from, is_skipped}
-use Rattle.schedule.specs.Plans.{later_lines}
+use Rattle.schedule.specs.Plans.{plan_of, plan_after, plan_with, plan_from, is_skipped, later_lines}
 use Rattle.schedule.proofs.PlanLemmas.{plan_after-skipped, plan_after-federation, plan_after-none}
 use Rattle.schedule.proofs.PlanLemmas.{fault_from_ok_or, IsOrMemory-no_federation}
 use Rattle.schedule.proofs.PlanLemmas.{IsOrMemory-later_fault}
@@ -31,10 +29,8 @@ plan_is c =
     let isnt : is_skipped line ≡ false = sym c.skips.ensures ∙ c.if-not-skips.true in
     let words : map (λ (word : Bor (List ℕ)). word.now) c.deref-then-not-skips.result.now
     ≡ words_of line = rw c.deref-then-not-skips.ensures.value c.in_ok-words.ensures.value in
-    c.loop-line.invariant.so_far ∙ ap (plan_after skipped) c.in-Some.ensures.value
-    ∙ plan_after-federation skipped line after isnt
-    ∙ ap (λ (m : Option Membership). plan_from skipped m (later_lines (skipped + 2) after))
-    (sym (ap federation_of words) ∙ sym c.parse_federation.ensures)
+    rw (c.loop-line.invariant.so_far, c.in-Some.ensures.value)
+    (rw (plan_after-federation skipped line after isnt, ← words, c.parse_federation.ensures) refl)
 
 pub returns-in_err-members : goal.returns-in_err-members
 returns-in_err-members c =
@@ -71,8 +67,7 @@ all_read : (c : After-parse_federation) (members : Membership) (said : List (Opt
 all_read c members said some says =
     let skipped = c.loop-line.skipped in
     let later = later_lines (skipped + 2) (lines c.in-Some.after.now) in
-    plan_is c ∙ ap (λ (m : Option Membership). plan_from skipped m later) some
-    ∙ ap (plan_from skipped (Some members)) says
+    rw (plan_is c, some, says) refl
 
 pub new-requires-clause-in_range : goal.new-requires-clause-in_range
 new-requires-clause-in_range c =

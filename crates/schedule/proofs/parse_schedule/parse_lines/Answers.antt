@@ -1,10 +1,9 @@
-use Rattle.std.proofs.Common.{◌≡◌, ℕ, ◌+◌, List, Option, Some, sym, ap, ◌∙◌, arith}
+use Rattle.std.proofs.Common.{◌≡◌, Some, sym, ◌∙◌, arith}
 use Rattle.std.specs.Str.Lines.{lines}
 use Rattle.std.proofs.lemmas.Result.{err_from_is_err_and}
-use Rattle.schedule.specs.declared.command.Command.{Command}
-use Rattle.schedule.specs.Plans.{later_line, later_lines}
-use Rattle.schedule.proofs.PlanLemmas.{with_earlier, with_earlier-more, with_earlier-fault}
-use Rattle.schedule.proofs.PlanLemmas.{with_earlier-all, fault_from_ok_or}
+use Rattle.schedule.specs.Plans.{later_line}
+use Rattle.schedule.proofs.PlanLemmas.{with_earlier-more, with_earlier-fault, with_earlier-all}
+use Rattle.schedule.proofs.PlanLemmas.{fault_from_ok_or}
 use Rattle.schedule.proofs.parse_schedule.parse_lines.Goals as goal
 
 pub returns-in_err-said-clause-fault : goal.returns-in_err-said-clause-fault
@@ -18,10 +17,8 @@ returns-in_err-said-clause-fault c =
     err_from_is_err_and c.from_residual-in_err-said.result c.from_residual-in_err-said.ensures.1 in
     let says = sym c.in_ok-parse_line.ensures ∙ f.0 in
     rw (p.1, p.2, f.1)
-    (c.loop-line.invariant.so_far
-    ∙ ap (λ (ls : List (List ℕ)). with_earlier front (later_lines number ls))
-    c.in-Some.ensures.value
-    ∙ with_earlier-fault front number c.in-Some.line.now (lines c.in-Some.after.now) says)
+    (rw (c.loop-line.invariant.so_far, c.in-Some.ensures.value)
+    (with_earlier-fault front number c.in-Some.line.now (lines c.in-Some.after.now) says))
 
 pub loop-line-preserved : goal.loop-line-preserved
 loop-line-preserved c = record {
@@ -32,11 +29,8 @@ loop-line-preserved c = record {
       let said = c.in_ok-said.said in
       let says : later_line c.in-Some.line.now ≡ Some said =
       sym c.in_ok-parse_line.ensures ∙ c.in_ok-said.ensures.ok_part in
-      c.loop-line.invariant.so_far
-      ∙ ap (λ (ls : List (List ℕ)). with_earlier front (later_lines number ls))
-      c.in-Some.ensures.value ∙ with_earlier-more front number c.in-Some.line.now after said says
-      ∙ ap (λ (items : List (Option Command)). with_earlier items (later_lines (number + 1) after))
-      (sym c.in_ok-push.ensures.items);
+      rw (c.loop-line.invariant.so_far, c.in-Some.ensures.value, c.in_ok-push.ensures.items)
+      (with_earlier-more front number c.in-Some.line.now after said says);
   numbers = omega (arith, c.in-Some.ensures.shorter);
   count = omega (arith, c.in-Some.ensures.shorter, c.in_ok-push.ensures.len);
 }
@@ -45,6 +39,4 @@ pub returns-clause-value : goal.returns-clause-value
 returns-clause-value c =
     let number = c.loop-line.number in
     let front = c.loop-line.commands.items in
-    c.loop-line.invariant.so_far
-    ∙ ap (λ (ls : List (List ℕ)). with_earlier front (later_lines number ls))
-    c.in_default.ensures.value ∙ with_earlier-all front number
+    rw (c.loop-line.invariant.so_far, c.in_default.ensures.value) (with_earlier-all front number)

@@ -1,6 +1,6 @@
 use Rattle.std.proofs.Common.{sym, ◌∙◌, ap, string_bytes}
 use Rattle.std.specs.Option.{option_map}
-use Rattle.words.proofs.TextLemmas.{text_of-some, some_from_value}
+use Rattle.tokens.proofs.TextLemmas.{text_of-some, some_from_value}
 use Rattle.schedule.proofs.value.parse_path.Goals as goal
 
 pub returns : goal.returns

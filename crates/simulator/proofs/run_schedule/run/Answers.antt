@@ -1,17 +1,13 @@
-use Rattle.std.proofs.Common.{◌≡◌, ◌<◌, ◌≤◌, length, take, get_or, ap, ◌∙◌, subst, sym}
-use Rattle.world_law.specs.Headline.{LinesAgree, ReportsWereDeposited}
-use Rattle.world_law.specs.Worlds.{World, new_world, run_from}
+use Rattle.std.proofs.Common.{◌≡◌, ◌<◌, ◌≤◌, length, take, get_or}
+use Rattle.world_law.specs.Worlds.{new_world, run_from}
 use Rattle.world_law.proofs.Promised as laws
-use Rattle.simulator.specs.Federations.{Represents}
 use Rattle.simulator.proofs.LineByLine.{run_from-none, run_from-more, run_from-all}
 use Rattle.simulator.proofs.run_schedule.run.Goals as goal
 
 pub lines-init : goal.lines-init
 lines-init c =
-    let f = c.in_ok-federation.federation in
-    let w = new_world c.args.schedule.now.members in
-    subst (Represents f) (sym (run_from-none c.first_line-first.result w))
-    (subst (λ m. Represents f (new_world m)) c.members.ensures c.in_ok-federation.ensures)
+    rw (run_from-none c.first_line-first.result (new_world c.args.schedule.now.members))
+    (rw c.members.ensures at c.in_ok-federation.ensures)
 
 pub lines-preserved : goal.lines-preserved
 lines-preserved c =
@@ -22,27 +18,21 @@ lines-preserved c =
     rw (← c.lines-line-items.ensures.value) c.lines-test.true in
     let is : c.line-item.result ≡ get_or lines c.lines.index c.line-item.result =
     rw (← c.lines-line-items.ensures.value) c.line-item.is in
-    subst (Represents c.in_ok-federation-2.federation)
-    (run_from-more first c.lines.index w lines c.line-item.result within is)
-    (c.in_ok-federation-2.ensures (run_from first w (take c.lines.index lines)) c.lines.invariant)
+    rw (run_from-more first c.lines.index w lines c.line-item.result within is)
+    at (c.in_ok-federation-2.ensures (run_from first w (take c.lines.index lines))
+    c.lines.invariant)
 
 pub returns-clause-lines : goal.returns-clause-lines
 returns-clause-lines c =
-    let plan = c.args.schedule.now in
-    let past : length plan.lines ≤ c.lines.index =
+    let past : length c.args.schedule.now.lines ≤ c.lines.index =
     rw (← c.lines-line-items.ensures.value) c.lines-test.false in
-    c.new-2.ensures
-    ∙ (c.into_lines.ensures
-    ∙ (c.lines.invariant.lines
-    ∙ ap (λ (w : World). w.lines)
-    (run_from-all plan c.first_line-first.result c.lines.index c.first_line-first.ensures.value
-    past)))
+    rw (c.new-2.ensures, c.into_lines.ensures, c.lines.invariant.lines)
+    (rw (run_from-all c.args.schedule.now c.first_line-first.result c.lines.index
+    c.first_line-first.ensures.value past))
 
 pub returns-clause-agree : goal.returns-clause-agree
-returns-clause-agree c =
-    subst LinesAgree (sym (returns-clause-lines c)) (laws.lines_agree c.args.schedule.now)
+returns-clause-agree c = rw (returns-clause-lines c) (laws.lines_agree c.args.schedule.now)
 
 pub returns-clause-deposited : goal.returns-clause-deposited
 returns-clause-deposited c =
-    subst (ReportsWereDeposited c.args.schedule.now) (sym (returns-clause-lines c))
-    (laws.reports_were_deposited c.args.schedule.now)
+    rw (returns-clause-lines c) (laws.reports_were_deposited c.args.schedule.now)

@@ -3,4 +3,5 @@ use Rattle.std.proofs.lemmas.List.{drop-replicate}
 use Rattle.tags.proofs.key_block.filled.Goals as goal
 
 pub returns : goal.returns
-returns c = rw (c.copy_from_slice.ensures.after, c.split_at_mut-front.ensures.back, drop-replicate) refl
+returns c = rw (c.copy_from_slice.ensures.after, c.split_at_mut-front.ensures.back, drop-replicate)
+    refl

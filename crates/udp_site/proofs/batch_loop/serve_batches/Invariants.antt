@@ -1,5 +1,4 @@
-use Rattle.std.specs.Prelude.{◌≡◌, ◌≤◌, ◌+◌, false, [], length}
-use Rattle.std.specs.Option.{option_to_list}
+use Rattle.std.proofs.Common.{◌≡◌, ◌≤◌, ◌+◌, false, [], length, option_to_list}
 use Rattle.book.specs.Batches.{HoldsFirst}
 use Rattle.proposer.specs.VolatileStates.{VolatileState}
 use Rattle.site.specs.Batches.{no_cell}

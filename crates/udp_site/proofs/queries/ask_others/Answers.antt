@@ -1,4 +1,5 @@
-use Rattle.std.proofs.Common.{sym, ap, ◌∙◌, le_refl, le_trans}
+use Rattle.udp_site.proofs.Handed.{is_err}
+use Rattle.std.proofs.Common.{[], sym, ap, ◌∙◌, le_refl, le_trans}
 use Rattle.fed_types.specs.Sites.{members_of}
 use Rattle.site.specs.Sites.{OpenSite}
 use Rattle.udp_site.proofs.Questions.{nobody_asked, all_asked, next_asked, next_failed}
@@ -22,28 +23,20 @@ loop-member-preserved g c = (
   tt,
   tt,
   λ old there serves.
-      next_asked c.args.addresses.now old c.args.slot.now (g.P.Port.traffic c.args.port.now)
-      (g.P.Port.traffic c.loop-member.port) (g.P.Port.traffic c.ask_other.new.port)
-      c.args.lines.now.items c.loop-member.lines.items c.ask_other.new.lines.items
-      c.in-Some.member c.loop-member.member-iterator c.next.new.self c.in-Some.ensures.steps
-      (c.loop-member.invariant.2 old there serves)
+      next_asked c.args.addresses.now old c.args.slot.now _ _ _ _ _ _ _ _ _
+      c.in-Some.ensures.steps (c.loop-member.invariant.2 old there serves)
       (c.in_ok-ask_other.ensures.comes old there serves),
   le_trans c.loop-member.invariant.3 c.in_ok-ask_other.ensures.later,
 )
 
 pub returns-in_err-ask_other-clause-comes : goal.returns-in_err-ask_other-clause-comes
 returns-in_err-ask_other-clause-comes g c old there serves =
-    next_failed c.args.addresses.now old c.args.slot.now (g.P.Port.traffic c.args.port.now)
-    (g.P.Port.traffic c.loop-member.port) (g.P.Port.traffic c.ask_other.new.port)
-    c.args.lines.now.items c.loop-member.lines.items c.ask_other.new.lines.items
-    c.in-Some.member c.loop-member.member-iterator c.next.new.self c.in-Some.ensures.steps
-    (c.loop-member.invariant.2 old there serves) c.in_err-ask_other.field-0.0
-    (c.in_err-ask_other.ensures.comes old there serves) c.from_residual.result
-    c.from_residual.ensures.1
+    rw (is_err _ _ c.from_residual.ensures.1)
+    (next_failed c.args.addresses.now old c.args.slot.now _ _ _ _ _ [] _ _ _
+    c.in-Some.ensures.steps (c.loop-member.invariant.2 old there serves) _
+    (c.in_err-ask_other.ensures.comes old there serves))
 
 pub returns-clause-comes : goal.returns-clause-comes
 returns-clause-comes g c old there serves =
-    all_asked c.args.addresses.now old c.args.slot.now (g.P.Port.traffic c.args.port.now)
-    (g.P.Port.traffic c.loop-member.port) c.args.lines.now.items c.loop-member.lines.items
-    c.loop-member.member-iterator c.in-None.ensures.steps.0
+    all_asked c.args.addresses.now old c.args.slot.now _ _ _ _ _ c.in-None.ensures.steps.0
     (c.loop-member.invariant.2 old there serves)

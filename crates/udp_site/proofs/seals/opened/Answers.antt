@@ -1,6 +1,5 @@
-use Rattle.std.proofs.Common.{◌≡◌, ℕ, ◌-◌, Bool, true, false, if◌then◌else◌, List, [], length}
-use Rattle.std.proofs.Common.{take, Some, None, arith, sym, ap, ◌∙◌}
-use Rattle.std.specs.Prelude.{unwrap_or}
+use Rattle.std.proofs.Common.{◌≡◌, ℕ, ◌-◌, Bool, true, false, if◌then◌else◌, List, [], length, take}
+use Rattle.std.proofs.Common.{Some, None, arith, sym, ap, ◌∙◌, unwrap_or}
 use Rattle.std.proofs.lemmas.List.{length-take-le}
 use Rattle.tags.specs.Hmac.{tag_len}
 use Rattle.tags.specs.Tags.{text_in}
@@ -35,5 +34,6 @@ returns-in-Some-clause-within c =
     grind (
       arith,
       part_length c.args.bytes.now,
-      ap length (is_part c.args.ring.now c.in-Some.text.now c.args.bytes.now (sym c.in-Some.ensures)),
+      ap length (is_part c.args.ring.now c.in-Some.text.now c.args.bytes.now
+          (sym c.in-Some.ensures)),
     )

@@ -1,5 +1,4 @@
-use Rattle.std.proofs.Common.{take, ◌≤◌}
-use Rattle.std.specs.List.{flat_map}
+use Rattle.std.proofs.Common.{take, ◌≤◌, flat_map}
 use Rattle.udp_site.specs.Traffic.{Grows, all_handed}
 use Rattle.udp_site.specs.Turns.{outgoing_posts}
 use Rattle.udp_site.proofs.sends.send_all.Given as goal

@@ -1,10 +1,7 @@
-use Rattle.std.proofs.Common.{◌≡◌, ℕ, Option, ◌-◌, ◌≤◌, length, map, None, ap, subst, sym, ◌∙◌}
-use Rattle.std.proofs.Common.{arith}
-use Rattle.std.specs.Prelude.{is_some, ltb}
+use Rattle.std.proofs.Common.{◌≡◌, ℕ, Option, ◌-◌, ◌≤◌, length, None, ap, sym, ◌∙◌, arith, is_some}
+use Rattle.std.proofs.Common.{ltb}
 use Rattle.std.proofs.lemmas.Bool.{ltb-false}
-use Rattle.std.specs.Option.{option_to_list}
 use Rattle.std.proofs.lemmas.Option.{slice_get_past}
-use Rattle.udp_site.specs.Traffic.{Grows, all_handed}
 use Rattle.udp_site.proofs.Handed.{grows_by_no_posts}
 use Rattle.udp_site.proofs.sends.send_to_site.Goals as goal
 
@@ -14,7 +11,6 @@ none_past place length found is none = ltb-false place length (sym is ∙ ap is_
 
 pub returns-in-None-clause-hands : goal.returns-in-None-clause-hands
 returns-in-None-clause-hands g c =
-    let traffic = g.P.Port.traffic c.args.port.now in
     let past : length c.args.addresses.now ≤ c.args.site - 1 =
     omega (
       arith,
@@ -23,6 +19,4 @@ returns-in-None-clause-hands g c =
       c.from.ensures,
       c.number.ensures.value,
     ) in
-    subst (λ found. Grows traffic traffic
-    (all_handed (map (λ port. (port, c.args.bytes.now)) (option_to_list found))))
-    (sym (slice_get_past c.args.addresses.now (c.args.site - 1) past)) (grows_by_no_posts traffic)
+    rw (slice_get_past c.args.addresses.now (c.args.site - 1) past) (grows_by_no_posts _)

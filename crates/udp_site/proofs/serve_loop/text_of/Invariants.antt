@@ -1,5 +1,4 @@
-use Rattle.std.proofs.Common.{◌≡◌, take}
-use Rattle.std.specs.List.{flat_map}
+use Rattle.std.proofs.Common.{◌≡◌, take, flat_map}
 use Rattle.std.specs.String.{string_bytes}
 use Rattle.lines.specs.Texts.{line_text}
 use Rattle.udp_site.specs.Served.{by_identity}

@@ -12,5 +12,7 @@ turn_of-requires g c =
       ends =
           subst (λ (buffer : List ℕ). EndsWait was.pace was.recoveries buffer c.in-Some.end)
           (sym (all_read bytes.len c.look_for.new.buffer bytes.items
-          (c.look_for.auto.buffer ∙ c.deref_mut.ensures.len))) (subst (λ (got : Option End). IfSome got (EndsWait was.pace was.recoveries c.look_for.new.buffer)) c.in-Some.is c.in_ok-end.ensures.ends);
+          (c.look_for.auto.buffer ∙ c.deref_mut.ensures.len)))
+          (subst (λ (got : Option End). IfSome got (EndsWait was.pace was.recoveries
+          c.look_for.new.buffer)) c.in-Some.is c.in_ok-end.ensures.ends);
     }

@@ -20,8 +20,8 @@ invariant_of-self-2 c =
       file_added is_at files c.push.new.self.items file c.lead_path.new.by_path path all named
           c.lead_path.ensures.each
           (path_added files c.lead_path.new.by_path path c.in_ok-lead_path.ensures.added),
-      file_added is_below files c.push.new.self.items file c.lead_folders.new.by_folder path all named
-          c.lead_folders.ensures.each c.in_ok-lead_folders.ensures.added,
+      file_added is_below files c.push.new.self.items file c.lead_folders.new.by_folder path all
+          named c.lead_folders.ensures.each c.in_ok-lead_folders.ensures.added,
       still_none_deep files c.push.new.self.items file path all named
           (rw c.as_slice-files.ensures.value c.self.invariant.2) c.requires.deepest,
     )

@@ -10,7 +10,8 @@ invariant_of-self g c =
     let old = (g.F.CellFile.about cell.file).image in
     let new = (g.F.CellFile.about c.append.new.self).image in
     let allows : AllowsAppend old = subst AllowsAppend
-    (sym (c.in_ok-expect_length.ensures.same.image ∙ c.in_ok-begin.ensures.same.image)) c.requires in
+    (sym (c.in_ok-expect_length.ensures.same.image ∙ c.in_ok-begin.ensures.same.image))
+    c.requires in
     record {
       sound = λ e. c.in-Ok.ensures.does.trust_is;
       owed = λ e. absurd (cc (e, sound));
@@ -29,7 +30,8 @@ invariant_of-self-in-Err-Device g c =
     let old = (g.F.CellFile.about cell.file).image in
     let new = (g.F.CellFile.about c.append.new.self).image in
     let allows : AllowsAppend old = subst AllowsAppend
-    (sym (c.in_ok-expect_length.ensures.same.image ∙ c.in_ok-begin.ensures.same.image)) c.requires in
+    (sym (c.in_ok-expect_length.ensures.same.image ∙ c.in_ok-begin.ensures.same.image))
+    c.requires in
     let does = changed_device (with_bytes c.args.bytes.now) (g.F.CellFile.about cell.file)
     (g.F.CellFile.about c.append.new.self) c.append.result c.append.ensures.does
     (cc (c.in-Err-Device.is, c.in-Err-Device.field-0-is)) in

@@ -11,7 +11,8 @@ invariant_of-self g c =
     let new = (g.F.CellFile.about c.cut.new.self).image in
     let allows : AllowsCut c.args.len old =
     subst (AllowsCut c.args.len)
-    (sym (c.in_ok-expect_length.ensures.same.image ∙ c.in_ok-begin.ensures.same.image)) c.requires in record {
+    (sym (c.in_ok-expect_length.ensures.same.image ∙ c.in_ok-begin.ensures.same.image))
+    c.requires in record {
       sound = λ e. c.in-Ok.ensures.does.trust_is;
       owed = λ e. absurd (cc (e, sound));
       sure_is = λ e. rw c.min-self.ensures
@@ -32,7 +33,8 @@ invariant_of-self-in-Err-Device g c =
     let new = (g.F.CellFile.about c.cut.new.self).image in
     let allows : AllowsCut c.args.len old =
     subst (AllowsCut c.args.len)
-    (sym (c.in_ok-expect_length.ensures.same.image ∙ c.in_ok-begin.ensures.same.image)) c.requires in
+    (sym (c.in_ok-expect_length.ensures.same.image ∙ c.in_ok-begin.ensures.same.image))
+    c.requires in
     let does = changed_device (cut_to c.args.len) (g.F.CellFile.about cell.file)
     (g.F.CellFile.about c.cut.new.self) c.cut.result c.cut.ensures.does
     (cc (c.in-Err-Device.is, c.in-Err-Device.field-0-is)) in

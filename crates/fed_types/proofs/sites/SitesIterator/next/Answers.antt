@@ -1,4 +1,4 @@
-use Rattle.std.proofs.Common.{◌∷◌, ◌+◌, ℕ, ◌≡◌, length, arith, ap, sym, ◌∙◌}
+use Rattle.std.proofs.Common.{◌∷◌, ◌+◌, ◌≡◌, length, arith, ap}
 use Rattle.fed_types.specs.inner.After.{sites_after}
 use Rattle.fed_types.proofs.After.{next_site}
 use Rattle.fed_types.proofs.sites.SitesIterator.next.Goals as goal
@@ -7,9 +7,8 @@ use Rattle.fed_types.proofs.sites.SitesIterator.next.Goals as goal
 first : (c : goal.After-of)
     → c.args.self.now ≡ c.of.result ∷ sites_after (c.self.inside.before + 1) c.self.inside.last
 first c =
-    sym c.self.view_is ∙ (next_site c.self.inside.before c.self.inside.last c.if-self.false
-    ∙ ap (λ (n : ℕ). n ∷ sites_after (c.self.inside.before + 1) c.self.inside.last)
-    (sym c.of.ensures))
+    rw (← c.self.view_is, c.of.ensures)
+    (next_site c.self.inside.before c.self.inside.last c.if-self.false)
 
 pub returns-clause-steps : goal.returns-clause-steps
 returns-clause-steps c = first c

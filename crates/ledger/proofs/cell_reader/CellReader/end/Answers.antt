@@ -1,6 +1,4 @@
-use Rattle.std.proofs.Common.{subst}
-use Rattle.std.specs.Prelude.{IfOk}
-use Rattle.ledger.specs.Parts.{TellsLast, nothing}
+use Rattle.ledger.specs.Parts.{TellsLast}
 use Rattle.ledger.proofs.ToldParts.{from_all}
 use Rattle.ledger.proofs.cell_reader.CellReader.end.Goals as goal
 
@@ -8,6 +6,4 @@ pub returns-in-None : goal.returns-in-None
 returns-in-None c =
     let reader = c.args.self.now in
     from_all reader.owner reader.passed reader.bytes.items c.in-None.is TellsLast
-    c.whole_part.result
-    (subst (λ b. IfOk c.whole_part.result (TellsLast b nothing)) c.as_slice.ensures.value
-    c.whole_part.ensures)
+    c.whole_part.result (rw c.as_slice.ensures.value at c.whole_part.ensures)

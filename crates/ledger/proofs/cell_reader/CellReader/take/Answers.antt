@@ -1,4 +1,4 @@
-use Rattle.std.proofs.Common.{◌++◌, subst, sym}
+use Rattle.std.proofs.Common.{◌++◌}
 use Rattle.ledger.specs.Parts.{HasToldBy}
 use Rattle.ledger.proofs.ToldParts.{told_longer}
 use Rattle.ledger.proofs.cell_reader.CellReader.take.Goals as goal
@@ -10,8 +10,7 @@ returns c = λ taken told given.
     let bytes = reader.bytes.items in
     let longer : HasToldBy reader.owner reader.passed c.extend_from_slice.new.self.items
     (taken ++ piece) told =
-    subst (λ b. HasToldBy reader.owner reader.passed b (taken ++ piece) told)
-    (sym c.in_ok-extend_from_slice.ensures.items)
+    rw c.in_ok-extend_from_slice.ensures.items
     (told_longer reader.owner reader.passed bytes taken told piece given) in
     c.after.ensures (taken ++ piece) told longer
     (c.in_ok-step.ensures (taken ++ piece) told longer)

@@ -1,6 +1,5 @@
-use Rattle.std.proofs.Common.{◌++◌, subst}
+use Rattle.std.proofs.Common.{◌++◌}
 use Rattle.std.specs.Prelude.{string_bytes}
-use Rattle.ledger.specs.Parts.{Tells}
 use Rattle.ledger.proofs.GivenLines.{lines_last, lines_more}
 use Rattle.ledger.proofs.journal_lines.JournalLines.take.Goals as goal
 
@@ -8,8 +7,7 @@ pub returns-in_ok-part_text-in-More : goal.returns-in_ok-part_text-in-More
 returns-in_ok-part_text-in-More c = λ taken text given.
     let all = taken ++ c.args.piece.now in
     lines_more c.take.new.self all given.0 c.in-More.part
-    (subst (Tells c.take.new.self all given.0) c.in-More.is
-    (c.in_ok-part.ensures taken given.0 given.1))
+    (rw c.in-More.is at (c.in_ok-part.ensures taken given.0 given.1))
     text (string_bytes c.in_ok-part_text-in-More.field-0) given.2
     c.in_ok-part_text-in-More.ensures
 
@@ -17,7 +15,6 @@ pub returns-in_ok-last_text-in-Last : goal.returns-in_ok-last_text-in-Last
 returns-in_ok-last_text-in-Last c = λ taken text given more.
     let all = taken ++ c.args.piece.now in
     lines_last (all ++ more) given.0 c.in-Last.last
-    ((subst (Tells c.take.new.self all given.0) c.in-Last.is
-    (c.in_ok-part.ensures taken given.0 given.1)).1 more)
+    ((rw c.in-Last.is at (c.in_ok-part.ensures taken given.0 given.1)).1 more)
     text (string_bytes c.in_ok-last_text-in-Last.field-0) given.2
     c.in_ok-last_text-in-Last.ensures

@@ -1,5 +1,4 @@
-use Rattle.std.proofs.Common.{◌++◌, subst}
-use Rattle.ledger.specs.Parts.{Tells}
+use Rattle.std.proofs.Common.{◌++◌}
 use Rattle.ledger.proofs.NotedVersions.{noted_last}
 use Rattle.ledger.proofs.ledger_lines.LedgerLines.take.Goals as goal
 
@@ -9,5 +8,4 @@ returns-in_ok-last_lines-in-Last c = λ taken noted more.
     let it = c.in_ok-last_lines-in-Last in
     noted_last c.args.wanted c.args.self.now c.in-Last.last it.field-0 it.ensures.ending
     it.ensures.text taken (all ++ more) noted
-    ((subst (Tells c.take.new.self all noted.0) c.in-Last.is
-    (c.in_ok-part.ensures taken noted.0 noted.1)).1 more)
+    ((rw c.in-Last.is at (c.in_ok-part.ensures taken noted.0 noted.1)).1 more)

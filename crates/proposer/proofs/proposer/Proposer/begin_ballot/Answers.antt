@@ -1,5 +1,4 @@
-use Rattle.std.proofs.Common.{◌∙◌, ap}
-use Rattle.proposer.specs.Rows.{ProposerState, row_of}
+use Rattle.proposer.specs.Rows.{row_of}
 use Rattle.proposer.specs.inner.Rows.{with_begun}
 use Rattle.proposer.proofs.Stands.{begins_at, put_present}
 use Rattle.proposer.proofs.proposer.Proposer.begin_ballot.Goals as goal
@@ -8,8 +7,7 @@ pub returns-clause-begun : goal.returns-clause-begun
 returns-clause-begun g c =
     begins_at c.args.self.now.rows c.self-2.inside.table c.begin_in.new.table c.args.slot.now
     c.in_ok-plan.plan c.args.plan
-    (λ s. ap (λ (p : ProposerState g.row.Q.Denot). row_of p.rows s) c.self-2.view_is
-    ∙ c.reserve.ensures.same s)
+    (λ s. rw (← c.self-2.view_is) at (c.reserve.ensures.same s))
     c.begin_in.ensures c.in_ok-plan.ensures.ok
 
 pub returns-clause-present : goal.returns-clause-present

@@ -1,5 +1,3 @@
-use Rattle.std.proofs.Common.{sym, subst}
-use Rattle.proposer.specs.Rows.{ProposerState, Represents}
 use Rattle.proposer.proofs.Issued.{issued_stands}
 use Rattle.proposer.proofs.proposer.Proposer.issued.Goals as goal
 
@@ -7,5 +5,4 @@ pub returns-clause-heard : goal.returns-clause-heard
 returns-clause-heard g c records volatile under stands =
     issued_stands c.self.inside.table c.issue_in.new.table c.args.slot.now records volatile under
     c.issue_in.ensures.issued
-    (subst (λ (p : ProposerState g.row.Q.Denot). Represents p.rows records volatile under)
-    (sym c.self.view_is) stands)
+    (rw (← c.self.view_is) at stands)

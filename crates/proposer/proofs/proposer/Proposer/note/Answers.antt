@@ -1,5 +1,3 @@
-use Rattle.std.proofs.Common.{◌∙◌, ap}
-use Rattle.proposer.specs.Rows.{ProposerState, row_of}
 use Rattle.proposer.proofs.Issued.{noted_stands}
 use Rattle.proposer.proofs.proposer.Proposer.note.Goals as goal
 
@@ -7,6 +5,4 @@ pub returns-clause-noted : goal.returns-clause-noted
 returns-clause-noted g c records volatile under stands =
     noted_stands c.args.self.now.rows c.self.inside.table c.note_in.new.table c.args.new.now
     records volatile under
-    (λ s. ap (λ (p : ProposerState g.row.Q.Denot). row_of p.rows s) c.self.view_is
-    ∙ c.reserve.ensures.same s)
-    c.note_in.ensures stands
+    (λ s. rw (← c.self.view_is) at (c.reserve.ensures.same s)) c.note_in.ensures stands

@@ -1,5 +1,3 @@
-use Rattle.std.proofs.Common.{◌∙◌, ap}
-use Rattle.proposer.specs.Rows.{ProposerState, row_of}
 use Rattle.proposer.proofs.Stands.{refused_stands}
 use Rattle.proposer.proofs.proposer.Proposer.refused.Goals as goal
 
@@ -7,6 +5,5 @@ pub returns-clause-heard : goal.returns-clause-heard
 returns-clause-heard g c from asked records volatile under stands =
     refused_stands c.args.self.now.rows c.self.inside.table c.refuse_in.new.table c.args.slot.now
     c.round.result from asked c.args.standing records volatile under
-    (λ s. ap (λ (p : ProposerState g.row.Q.Denot). row_of p.rows s) c.self.view_is
-    ∙ c.reserve.ensures.same s)
+    (λ s. rw (← c.self.view_is) at (c.reserve.ensures.same s))
     c.refuse_in.ensures c.round.ensures.value stands

@@ -1,10 +1,7 @@
-use Rattle.std.proofs.Common.{subst}
-use Rattle.sim_stations.specs.declared.run_state.RunState.{RunState}
-use Rattle.sim_stations.specs.Stations.{Represents}
 use Rattle.sim_stations.proofs.Rest.{stopped}
 use Rattle.sim_stations.proofs.run_state.RunState.closed.Goals as goal
 
 pub returns-in-Running : goal.returns-in-Running
 returns-in-Running c owner s stands =
-    stopped owner c.in-Running.site c.close.result c.close.ensures.cell c.close.ensures.recovers s
-    (subst (λ (p : RunState). Represents owner p s) c.in-Running.is stands)
+    stopped owner c.in-Running.site c.close.result c.close.ensures.cell c.close.ensures.recovers
+    s.records s.mode (rw c.in-Running.is at stands)

@@ -1,5 +1,4 @@
-use Rattle.std.proofs.Common.{ℕ, List, [], ap, ◌∙◌}
-use Rattle.cell_device.specs.Images.{at_rest}
+use Rattle.std.proofs.Common.{[]}
 use Rattle.world_law.specs.Networks.{new_site}
 use Rattle.sim_stations.specs.Stations.{IsOpened}
 use Rattle.sim_stations.proofs.Rest.{empty_keeps_none}
@@ -10,5 +9,5 @@ unfolding new_site
 returns-clause-is_new c =
     let is : IsOpened c.args.owner [] c.in_ok-opened.opened =
     c.in_ok-opened.ensures [] (empty_keeps_none c.args.owner c.new-empty.result
-    (c.new-empty.ensures.bytes ∙ ap (λ (bytes : List ℕ). at_rest bytes) c.new.ensures.items)) in
+    (rw (c.new-empty.ensures.bytes, c.new.ensures.items))) in
     (is.whose, is.up)

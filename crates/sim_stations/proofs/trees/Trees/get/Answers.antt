@@ -1,4 +1,4 @@
-use Rattle.std.proofs.Common.{◌<◌, ℕ, Some, None, sym, ap, subst, ◌∙◌}
+use Rattle.std.proofs.Common.{Some, None, ap, ◌∙◌}
 use Rattle.std.specs.Option.{option_copied}
 use Rattle.world_law.specs.Trees.{NumberedTree}
 use Rattle.sim_stations.proofs.Places.{at, in_range, found_tree}
@@ -11,12 +11,9 @@ returns-in_err-place c =
 
 pub index-requires : goal.index-requires
 index-requires c =
-    subst (λ (count : ℕ). c.in_ok-place.place < count) (sym c.self.inside.trees.ok.0)
-    (in_range c.args.number c.in_ok-place.place c.self.inside.trees.items c.args.self.now
-    c.self.view_is c.in_ok-place.ensures)
+    rw c.self.inside.trees.ok.0 (in_range c.args.number c.self.view_is c.in_ok-place.ensures)
 
 pub returns : goal.returns
 returns c =
     ap (λ (tree : NumberedTree). Some tree.files) c.behind-self.view_is
-    ∙ found_tree c.args.number c.in_ok-place.place c.self.inside.trees.items c.args.self.now
-    c.self.view_is c.in_ok-place.ensures c.index.result.now c.index.ensures
+    ∙ found_tree c.args.number c.self.view_is c.in_ok-place.ensures c.index.ensures

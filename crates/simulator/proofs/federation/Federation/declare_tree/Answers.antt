@@ -1,16 +1,17 @@
-use Rattle.std.proofs.Common.{refl, sym}
-use Rattle.simulator.proofs.Answers.{then_ok}
-use Rattle.simulator.proofs.Trees.{tree_declared, tree_was_declared}
+use Rattle.std.proofs.Common.{refl}
+use Rattle.std.proofs.lemmas.Result.{on_ok_weaker}
+use Rattle.world_law.specs.Worlds.{on_tree}
+use Rattle.simulator.proofs.Trees.{trees_stand}
 use Rattle.simulator.proofs.federation.Federation.declare_tree.Goals as goal
 
 pub returns-in-None : goal.returns-in-None
+unfolding on_tree
 returns-in-None c =
-    then_ok c.declare.result
-    (λ new w is. tree_declared c.args.self.now _ w c.args.number c.args.tree
-    (record { members = refl; stations = refl; sent = refl; seen = refl; lines = refl })
-    (sym c.in-None.ensures) new is) c.declare.ensures.ok
+    on_ok_weaker c.declare.result (λ new w is.
+    rw (← is.trees, ← c.in-None.ensures) (trees_stand refl new is)) c.declare.ensures.ok
 
 pub returns-in-Some : goal.returns-in-Some
+unfolding on_tree
 returns-in-Some c =
-    then_ok c.skip.result (λ skips w is. tree_was_declared c.args.self.now _ w c.args.number
-    c.args.tree _ (sym c.in-Some.ensures) (skips w is) is) c.skip.ensures
+    on_ok_weaker c.skip.result (λ skips w is.
+    rw (← (rw is.trees at c.in-Some.ensures)) (skips w is)) c.skip.ensures

@@ -28,58 +28,51 @@ returns-in-Pump c = rw c.in-Pump.is c.pump.ensures
 pub returns-in-Some : goal.returns-in-Some
 unfolding after_command
 returns-in-Some c =
-    rw c.in-Query.is (to_member c.query.result c.args.self.now _ c.args.number c.in-Query.site
-    (λ w n. event_at w c.args.number n (Query n c.in-Query.slot)) c.in-Some.place
-    c.in-Some.ensures c.query.ensures)
+    rw c.in-Query.is (to_member c.query.result _ _ _ _
+    (λ w n. event_at w c.args.number n (Query n c.in-Query.slot)) _ c.in-Some.ensures
+    c.query.ensures)
 
 pub returns-in-None : goal.returns-in-None
 unfolding after_command
 returns-in-None c =
-    rw c.in-Query.is (to_nobody c.skip.result c.args.self.now _ c.args.number c.in-Query.site
-    (λ w n. event_at w c.args.number n (Query n c.in-Query.slot)) c.in-None.ensures
-    c.skip.ensures)
+    rw c.in-Query.is (to_nobody c.skip.result _ _ _ _ _ c.in-None.ensures c.skip.ensures)
 
 pub returns-in-Some-place_of : goal.returns-in-Some-place_of
 unfolding after_command
 returns-in-Some-place_of c =
     let bytes = c.as_slice-in-Some-place_of.result.now in
     rw (c.in-Raw.is, ← c.as_slice-in-Some-place_of.ensures)
-    (to_member c.raw.result c.args.self.now _ c.args.number c.in-Raw.site
-    (λ w n. on_raw w c.args.number n (message_of w.members.federation bytes))
-    c.in-Some-place_of.place c.in-Some-place_of.ensures c.raw.ensures)
+    (to_member c.raw.result _ _ _ _
+    (λ w n. on_raw w c.args.number n (message_of w.members.federation bytes)) _
+    c.in-Some-place_of.ensures c.raw.ensures)
 
 pub returns-in-None-place_of : goal.returns-in-None-place_of
 unfolding after_command
 returns-in-None-place_of c =
-    rw c.in-Raw.is (to_nobody c.skip-in-None-place_of.result c.args.self.now _ c.args.number
-    c.in-Raw.site
-    (λ w n. on_raw w c.args.number n (message_of w.members.federation c.in-Raw.bytes))
-    c.in-None-place_of.ensures c.skip-in-None-place_of.ensures)
+    rw c.in-Raw.is (to_nobody c.skip-in-None-place_of.result _ _ _ _ _ c.in-None-place_of.ensures
+    c.skip-in-None-place_of.ensures)
 
 pub returns-in-Some-place_of-2 : goal.returns-in-Some-place_of-2
 unfolding after_command
 returns-in-Some-place_of-2 c =
-    rw c.in-Stop.is (to_member c.stop.result c.args.self.now _ c.args.number c.in-Stop.site
-    (λ w n. event_at w c.args.number n (Stop n)) c.in-Some-place_of-2.place
-    c.in-Some-place_of-2.ensures c.stop.ensures)
+    rw c.in-Stop.is (to_member c.stop.result _ _ _ _
+    (λ w n. event_at w c.args.number n (Stop n)) _ c.in-Some-place_of-2.ensures c.stop.ensures)
 
 pub returns-in-None-place_of-2 : goal.returns-in-None-place_of-2
 unfolding after_command
 returns-in-None-place_of-2 c =
-    rw c.in-Stop.is (to_nobody c.skip-in-None-place_of-2.result c.args.self.now _ c.args.number
-    c.in-Stop.site (λ w n. event_at w c.args.number n (Stop n)) c.in-None-place_of-2.ensures
-    c.skip-in-None-place_of-2.ensures)
+    rw c.in-Stop.is (to_nobody c.skip-in-None-place_of-2.result _ _ _ _ _
+    c.in-None-place_of-2.ensures c.skip-in-None-place_of-2.ensures)
 
 pub returns-in-Some-place_of-3 : goal.returns-in-Some-place_of-3
 unfolding after_command
 returns-in-Some-place_of-3 c =
-    rw c.in-Start.is (to_member c.start.result c.args.self.now _ c.args.number c.in-Start.site
-    (λ w n. on_start w c.args.number n (mode_of w n)) c.in-Some-place_of-3.place
-    c.in-Some-place_of-3.ensures c.start.ensures)
+    rw c.in-Start.is (to_member c.start.result _ _ _ _
+    (λ w n. on_start w c.args.number n (mode_of w n)) _ c.in-Some-place_of-3.ensures
+    c.start.ensures)
 
 pub returns-in-None-place_of-3 : goal.returns-in-None-place_of-3
 unfolding after_command
 returns-in-None-place_of-3 c =
-    rw c.in-Start.is (to_nobody c.skip-in-None-place_of-3.result c.args.self.now _ c.args.number
-    c.in-Start.site (λ w n. on_start w c.args.number n (mode_of w n))
+    rw c.in-Start.is (to_nobody c.skip-in-None-place_of-3.result _ _ _ _ _
     c.in-None-place_of-3.ensures c.skip-in-None-place_of-3.ensures)

@@ -1,8 +1,8 @@
-use Rattle.std.proofs.Common.{Some, refl, sym, subst, ◌∙◌}
+use Rattle.std.proofs.Common.{Some, refl, sym, ◌∙◌}
 use Rattle.dgram.specs.Decoded.{message_of}
 use Rattle.proposer.specs.VolatileStates.{VolatileState}
 use Rattle.site.specs.Calls.{Arrives}
-use Rattle.site.specs.Sites.{OpenSite, Represents}
+use Rattle.site.specs.Sites.{Represents}
 use Rattle.site.proofs.HeardMessages.{drops_bytes}
 use Rattle.site.proofs.Reports.{reported_of}
 use Rattle.site.proofs.member_site.Site.arrive.Goals as goal
@@ -15,11 +15,8 @@ returns-in-None-clause-answer g c =
 
 pub returns-in-Some-clause-reported : goal.returns-in-Some-clause-reported
 returns-in-Some-clause-reported g c opened =
+    let some : (volatile : VolatileState) × Represents c.args.self.now volatile =
+    rw (← c.self.view_is) c.self.invariant.volatile in
     reported_of g.C.Cell.device c.args.self.now c.on_message.new.self some.0
     (Arrives (Some c.in-Some.message)) c.on_message.result
     (c.on_message.ensures.answer some.0 some.1)
-  where
-    some : (volatile : VolatileState) × Represents c.args.self.now volatile
-    some = subst (λ (s : OpenSite g.row.C.Denot).
-        (volatile : VolatileState) × Represents s volatile)
-        c.self.view_is c.self.invariant.volatile

@@ -1,22 +1,15 @@
-use Rattle.std.proofs.Common.{Result, Ok, sym, subst, ◌∙◌}
+use Rattle.std.proofs.Common.{Ok, sym, ◌∙◌}
 use Rattle.bag_check.specs.Check.{check_of}
-use Rattle.site.specs.declared.answer.Answer.{Answer}
-use Rattle.site.specs.declared.fault.SiteFault.{SiteFault}
-use Rattle.site.specs.Answered.{IsAnswered}
 use Rattle.site.specs.Calls.{on_deposit}
 use Rattle.site.specs.Faults.{check_fault}
-use Rattle.site.proofs.Conclusions.{answer_err_of}
+use Rattle.site.proofs.Seen.{error_of}
 use Rattle.site.proofs.Refused.{check_refused, never_needs}
 use Rattle.site.proofs.member_site.Site.deposit.Goals as goal
 
 pub returns-in_err-bag-clause-answer : goal.returns-in_err-bag-clause-answer
 returns-in_err-bag-clause-answer g c opened volatile stands =
-    subst (λ (r : Result Answer SiteFault). IsAnswered g.C.Cell.device c.args.self.now
-    c.args.self.now volatile
-    (on_deposit c.args.self.now.book.records volatile c.args.slot.now
-    (check_of c.args.facts.now)) r)
-    (sym (answer_err_of c.from_residual.result (check_fault c.in_err-bag.field-0.0)
-    c.from_residual.ensures.1))
+    rw (error_of c.from_residual.result (check_fault c.in_err-bag.field-0.0)
+    c.from_residual.ensures.1)
     (check_refused g.C.Cell.device c.args.self.now volatile c.args.slot.now
     (check_of c.args.facts.now) c.in_err-bag.field-0.0 c.in_err-bag.ensures.exact stands)
 

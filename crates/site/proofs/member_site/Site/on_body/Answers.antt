@@ -1,5 +1,5 @@
-use Rattle.std.proofs.Common.{inl, inr, refl, sym, subst}
-use Rattle.site.proofs.HeardMessages.{IsRequest, drops_request}
+use Rattle.std.proofs.Common.{inl, inr, refl}
+use Rattle.site.proofs.HeardMessages.{drops_request}
 use Rattle.site.proofs.member_site.Site.on_body.Goals as goal
 
 pub returns-in-Deposit : goal.returns-in-Deposit
@@ -7,14 +7,14 @@ returns-in-Deposit g c =
     drops_request g.C.Cell.device c.args.self.now c.args.self.now c.args.message.slot
     c.args.message.body
     (elim c.in-Deposit.is [
-      | inl w ↦ subst IsRequest (sym w.1) tt
+      | inl w ↦ rw w.1 tt
       | inr more ↦ elim more [
-        | inl w ↦ subst IsRequest (sym w) tt
+        | inl w ↦ rw w tt
         | inr rest ↦ elim rest [
-          | inl w ↦ subst IsRequest (sym w) tt
+          | inl w ↦ rw w tt
           | inr replies ↦ elim replies [
-            | inl w ↦ subst IsRequest (sym w.2) tt
-            | inr w ↦ subst IsRequest (sym w.2) tt
+            | inl w ↦ rw w.2 tt
+            | inr w ↦ rw w.2 tt
           ]
         ]
       ]

@@ -1,30 +1,15 @@
-use Rattle.std.proofs.Common.{◌≡◌, ℕ, List, Result, Err, subst}
-use Rattle.fed_types.specs.Slots.{SlotName}
+use Rattle.std.proofs.Common.{◌≡◌, refl, Ok}
 use Rattle.bag_check.specs.Check.{check_of}
-use Rattle.site.specs.declared.answer.Answer.{Answer}
-use Rattle.site.specs.declared.fault.SiteFault.{SiteFault}
-use Rattle.site.specs.Calls.{Input, Deposits}
+use Rattle.site.specs.Calls.{Deposits}
 use Rattle.udp_site.specs.Replies.{deposit_answer}
-use Rattle.udp_site.specs.Traffic.{Post, Grows, all_handed}
-use Rattle.udp_site.specs.Turns.{Done, Serving, IsServing, members, number, notices_of}
-use Rattle.udp_site.specs.Turns.{deposit_replies}
-use Rattle.udp_site.specs.inner.Outcomes.{Hands, Notes}
-use Rattle.udp_site.proofs.Called.{Call}
-use Rattle.udp_site.proofs.Calls.{calls_whole, calls_part, calls_failed}
-use Rattle.udp_site.proofs.Handed.{whole_part}
+use Rattle.udp_site.specs.Turns.{Serving, IsServing, members, number, deposit_replies, takes_tree}
+use Rattle.udp_site.proofs.Called.{Call, is_called, still_serving}
+use Rattle.udp_site.proofs.Handed.{is_err}
+use Rattle.udp_site.proofs.Said.{handed_and_said, on_ok_at}
 use Rattle.udp_site.proofs.Same.{same_number, replied}
 use Rattle.udp_site.proofs.server.Server.deposit_tree.Given.{Over}
 use Rattle.udp_site.proofs.server.Server.deposit_tree.Goals.{After-reply_to_deposit}
 use Rattle.udp_site.proofs.server.Server.deposit_tree.Goals as goal
-
--- what is done of an answer
-abbrev done_of :
-    {C : Type 0} → Serving C → (port : ℕ) → SlotName → Input → Result Answer SiteFault → Done
-done_of s port slot input result = record {
-  posts =
-      deposit_replies (members s).federation (number s) port slot (deposit_answer result);
-  notices = notices_of (number s) input result;
-}
 
 -- the reply that is told, in the definitions' words
 told : (g : Over) (c : After-reply_to_deposit g) (old : Serving g.row.C.Denot) → old.site ≡
@@ -34,10 +19,8 @@ told : (g : Over) (c : After-reply_to_deposit g) (old : Serving g.row.C.Denot) �
     ≡ deposit_replies (members old).federation (number old) c.args.client c.args.slot
     (deposit_answer c.deposit-answer.result)
 told g c old there =
-    replied old c.args.self.now.site.now there c.members.result c.federation-federation.result
-    c.number-from.result c.federation-federation.ensures c.members.ensures c.number-from.ensures
-    c.args.client c.args.slot c.deposit_answer-said.result (deposit_answer c.deposit-answer.result)
-    c.deposit_answer-said.ensures
+    replied old there c.federation-federation.ensures c.members.ensures c.number-from.ensures
+    c.args.client c.args.slot c.deposit_answer-said.ensures
 
 -- the site was called
 call : (g : Over) (c : After-reply_to_deposit g) (old : Serving g.row.C.Denot) → old.site ≡
@@ -55,52 +38,20 @@ call g c old there serves = record {
 
 pub returns-clause-comes : goal.returns-clause-comes
 returns-clause-comes g c old there serves =
-    let was = c.args.self.now in
-    let at = goal.at.returns-clause-comes g c in
-    let input = Deposits c.args.slot (check_of c.args.facts.now) in
-    let before = g.P.Port.traffic was.port.now in
-    let after = g.P.Port.traffic c.reply_to_deposit.new.port in
-    calls_whole (call g at.After-reply_to_deposit old there serves)
-    (done_of old c.args.client c.args.slot input) before after was.lines.now.items
-    c.push_deposit.new.lines.items
-    (subst (λ (posts : List Post). Grows before after (all_handed posts))
-    (told g at.After-reply_to_deposit old there) c.in_ok-slot.ensures.handed)
-    (subst (λ (site : ℕ). Notes was.lines.now.items c.push_deposit.new.lines.items
-    (notices_of site input c.deposit-answer.result))
-    (same_number old was.site.now there c.number-from.result c.number.result
-    c.number.ensures.value c.number-from.ensures)
-    (subst (λ (slot : SlotName). Notes was.lines.now.items c.push_deposit.new.lines.items
-    (notices_of c.number.result (Deposits slot (check_of c.args.facts.now))
-    c.deposit-answer.result)) c.in_ok-slot.ensures.slot
-    (c.in_ok-push_deposit.ensures (check_of c.args.facts.now))))
+    let at = (goal.at.returns-clause-comes g c).After-reply_to_deposit in
+    let call = call g at old there serves in
+    let checked = check_of c.args.facts.now in
+    handed_and_said (takes_tree g.C.Cell.device old c.args.client c.args.slot (Ok c.args.facts.now))
+    (_, is_called call, refl) refl (still_serving call) _ _
+    (rw (told g at old there) at c.in_ok-slot.ensures.handed) _ _ _
+    (rw (
+      ← same_number old there c.number.ensures.value c.number-from.ensures,
+      ← c.in_ok-slot.ensures.slot,
+    ) (on_ok_at _ _ c.push_deposit.ensures checked))
 
 pub returns-in_err-slot-clause-comes : goal.returns-in_err-slot-clause-comes
 returns-in_err-slot-clause-comes g c old there serves =
-    let was = c.args.self.now in
-    let at = goal.at.returns-in_err-slot-clause-comes g c in
-    let input = Deposits c.args.slot (check_of c.args.facts.now) in
-    let before = g.P.Port.traffic was.port.now in
-    let after = g.P.Port.traffic c.reply_to_deposit.new.port in
-    calls_failed (call g at.After-reply_to_deposit old there serves)
-    (done_of old c.args.client c.args.slot input) before after was.lines.now.items
-    was.lines.now.items c.in_err-slot.field-0.0 c.from_residual.result c.from_residual.ensures.1
-    (subst (λ (posts : List Post). Hands {T = Unit {0}} before after posts
-    (Err c.in_err-slot.field-0.0)) (told g at.After-reply_to_deposit old there)
-    c.in_err-slot.ensures.handed)
-
-pub returns-in_err-push_deposit-clause-comes : goal.returns-in_err-push_deposit-clause-comes
-returns-in_err-push_deposit-clause-comes g c old there serves =
-    let was = c.args.self.now in
-    let at = goal.at.returns-in_err-push_deposit-clause-comes g c in
-    let input = Deposits c.args.slot (check_of c.args.facts.now) in
-    let before = g.P.Port.traffic was.port.now in
-    let after = g.P.Port.traffic c.reply_to_deposit.new.port in
-    calls_part (call g at.After-reply_to_deposit old there serves)
-    (done_of old c.args.client c.args.slot input) before after was.lines.now.items
-    c.push_deposit.new.lines.items
-    (whole_part before after (all_handed
-    (deposit_replies (members old).federation (number old) c.args.client c.args.slot
-    (deposit_answer c.deposit-answer.result)))
-    (subst (λ (posts : List Post). Grows before after (all_handed posts))
-    (told g at.After-reply_to_deposit old there) c.in_ok-slot.ensures.handed))
-    c.from_residual-in_err-push_deposit.result c.from_residual-in_err-push_deposit.ensures.1
+    let at = (goal.at.returns-in_err-slot-clause-comes g c).After-reply_to_deposit in
+    let part = rw (told g at old there) at c.in_err-slot.ensures.handed in
+    rw (is_err _ _ c.from_residual.ensures.1)
+    (_, _, (_, is_called (call g at old there serves), refl), refl, part.0, part.1)

@@ -1,8 +1,8 @@
-use Rattle.std.proofs.Common.{◌≡◌, rules, Some, ap, ◌∙◌}
-use Rattle.fed_types.specs.Slots.{SlotName}
+use Rattle.std.proofs.Common.{[], ◌≡◌, rules, ◌∙◌}
 use Rattle.udp_site.specs.inner.SlotRecords.{AreSettled}
 use Rattle.udp_site.proofs.Waited.{not_yet, none_to_propose, no_slot, proposal_comes, no_memory}
 use Rattle.udp_site.proofs.Search.{settled_on}
+use Rattle.udp_site.proofs.Handed.{is_err}
 use Rattle.udp_site.proofs.server.Server.idle.Given.{Over}
 use Rattle.udp_site.proofs.server.Server.idle.Goals.{After-from, After-past_settled-self}
 use Rattle.udp_site.proofs.server.Server.idle.Goals as goal
@@ -16,19 +16,15 @@ from_is g c = c.from.ensures ∙ (c.number-2.ensures.value ∙ c.number.ensures)
 settled : (g : Over) (c : After-past_settled-self g)
     → AreSettled c.args.self.now.site.now.book.records c.args.self.now.progress.settled
     → AreSettled c.args.self.now.site.now.book.records c.past_settled-self.result
-settled g c are =
-    settled_on c.args.self.now.site.now.book.records c.args.self.now.progress.settled
-    c.past_settled-self.result are c.past_settled-self.ensures.settled
+settled g c are = settled_on _ _ _ are c.past_settled-self.ensures.settled
 
 pub returns-then-self-from-ne0-clause-turn : goal.returns-then-self-from-ne0-clause-turn
 returns-then-self-from-ne0-clause-turn g c = record {
   count = search rules;
   settled = search rules;
   comes = λ old stands.
-      let was = c.args.self.now in
-      let at = goal.at.returns-then-self-from-ne0-clause-turn g c in
-      not_yet g.C.Cell.device was.addresses.now old was.site.now was.progress stands c.from.result
-      (from_is g at.After-from) (g.P.Port.traffic was.port.now) was.lines.now.items
+      not_yet g.C.Cell.device c.args.self.now.addresses.now stands
+      (from_is g (goal.at.returns-then-self-from-ne0-clause-turn g c).After-from) _ _
       c.if-self-from-ne0.true;
 }
 
@@ -40,10 +36,8 @@ returns-in_default-clause-turn g c =
       count = search rules;
       settled = past;
       comes = λ old stands.
-          let was = c.args.self.now in
-          none_to_propose g.C.Cell.device was.addresses.now old was.site.now was.progress stands
-          c.from.result (from_is g at.After-from) (g.P.Port.traffic was.port.now)
-          was.lines.now.items c.if-self-from-ne0.false
+          none_to_propose g.C.Cell.device c.args.self.now.addresses.now stands
+          (from_is g at.After-from) _ _ c.if-self-from-ne0.false
           (c.in_default.ensures.next (past stands.settled));
     }
 
@@ -55,10 +49,8 @@ returns-in_default-deposited-clause-turn g c =
       count = search rules;
       settled = past;
       comes = λ old stands.
-          let was = c.args.self.now in
-          no_slot g.C.Cell.device was.addresses.now old was.site.now was.progress stands
-          c.from.result (from_is g at.After-from) (g.P.Port.traffic was.port.now)
-          was.lines.now.items c.if-self-from-ne0.false c.in-Some.place
+          no_slot g.C.Cell.device c.args.self.now.addresses.now stands
+          (from_is g at.After-from) _ _ c.if-self-from-ne0.false _
           (c.in-Some.ensures.next (past stands.settled)) c.in_default-deposited.ensures;
     }
 
@@ -70,12 +62,11 @@ returns-in_err-slot-clause-turn g c =
       count = search rules;
       settled = past;
       comes = λ old stands.
-          let was = c.args.self.now in
-          no_memory g.C.Cell.device was.addresses.now old was.site.now was.progress stands
-          c.from.result (from_is g at.After-from) c.if-self-from-ne0.false c.in-Some.place
+          rw (is_err _ _ c.from_residual.ensures.1)
+          (no_memory g.C.Cell.device c.args.self.now.addresses.now stands
+          (from_is g at.After-from) c.if-self-from-ne0.false _
           (c.in-Some.ensures.next (past stands.settled)) c.in-Some-deposited.slot.now
-          c.in-Some-deposited.ensures (g.P.Port.traffic was.port.now) was.lines.now.items
-          c.from_residual.result c.from_residual.ensures.1;
+          c.in-Some-deposited.ensures _ [] _);
     }
 
 pub returns-clause-turn : goal.returns-clause-turn
@@ -86,14 +77,10 @@ returns-clause-turn g c =
       count = search rules;
       settled = λ are. rw c.propose.ensures.stays.progress (past are);
       comes = λ old stands.
-          let was = c.args.self.now in
-          let left = c.propose.new.self in
           rw c.propose.ensures.stays.progress
-          (proposal_comes g.C.Cell.device was.addresses.now old was.site.now was.progress stands
-          c.from.result (from_is g at.After-from) c.if-self-from-ne0.false c.in-Some.place
+          (proposal_comes g.C.Cell.device c.args.self.now.addresses.now stands
+          (from_is g at.After-from) c.if-self-from-ne0.false _
           (c.in-Some.ensures.next (past stands.settled)) c.in_ok-slot.slot
-          (ap (λ (s : SlotName). Some s) c.in_ok-slot.ensures ∙ c.in-Some-deposited.ensures)
-          (g.P.Port.traffic was.port.now) (g.P.Port.traffic left.port.now)
-          was.lines.now.items left.lines.now.items left.site.now
-          c.propose.result c.propose.ensures.comes);
+          (rw c.in_ok-slot.ensures c.in-Some-deposited.ensures) _ _ _ _ _ _
+          c.propose.ensures.comes);
     }

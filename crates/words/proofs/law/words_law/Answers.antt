@@ -1,5 +1,0 @@
-use Rattle.words.proofs.GrammarLemmas.{words_of-from, HasWords-words_of}
-use Rattle.words.proofs.law.words_law.Goals as goal
-
-pub returns : goal.returns
-returns c = λ line words. (words_of-from line words, HasWords-words_of line words)
