@@ -5,7 +5,7 @@ ghost use Rattle.code_words.specs.Names.{shown_name};
 ghost use Rattle.tokens.specs.Pushes.{Pushes};
 ghost use Rattle.audit_command.specs.Words.{Explains};
 
-use crate::disk_cells::DiskCell;
+use crate::disk_cells::AuditedCell;
 use code_words::{path_fault, push_name};
 use std::alloc::AllocError;
 use std::fmt::Display;
@@ -21,7 +21,7 @@ const FREE: &str = " isn't in use, and was synced before it was read";
 
 /// Says on standard error that the cell of this path is in use, or why it can't be opened. If
 /// standard error can't be written, or memory runs out, it says nothing.
-pub(crate) fn say_opened(rt: &HostRuntime, path: &str, opened: &io::Result<DiskCell>) {
+pub(crate) fn say_opened(rt: &HostRuntime, path: &str, opened: &io::Result<AuditedCell>) {
     match opened {
         Ok(cell) if cell.is_pipe() => say_state(rt, path, PIPED),
         Ok(cell) if !cell.in_use => {}

@@ -25,7 +25,7 @@ pub(crate) struct DiskCells<'a> {
 
 /// A cell's file that was opened, as far as it was read.
 #[derive(Drop)]
-pub(crate) struct DiskCell {
+pub(crate) struct AuditedCell {
     bytes: LiveCell,
     /// Whether a site holds its lock, or may: nobody knows it of what comes through a pipe. Where
     /// none does, this file holds it, shared: no site can open the cell until it is dropped.
@@ -36,7 +36,7 @@ pub(crate) struct DiskCell {
     unread: u64,
 }
 
-impl DiskCell {
+impl AuditedCell {
     /// Whether its bytes come through a pipe.
     pub(crate) fn is_pipe(&self) -> bool {
         self.bytes.is_pipe()
@@ -44,7 +44,7 @@ impl DiskCell {
 }
 
 impl CellFiles for DiskCells<'_> {
-    type Cell = DiskCell;
+    type Cell = AuditedCell;
 
     fn hashing(&self) -> RandomState
         ensures { result ≡ self.now.hashing }
@@ -52,7 +52,7 @@ impl CellFiles for DiskCells<'_> {
         self.hashing
     }
 
-    fn open(&self, path: &str) -> Result<Option<DiskCell>, AllocError> {
+    fn open(&self, path: &str) -> Result<Option<AuditedCell>, AllocError> {
         let opened = open_cell(self.rt, path);
         if self.words {
             say_opened(self.rt, path, &opened);
@@ -60,19 +60,19 @@ impl CellFiles for DiskCells<'_> {
         cell_of(opened)
     }
 
-    fn is_in_use(&self, cell: &DiskCell) -> bool
+    fn is_in_use(&self, cell: &AuditedCell) -> bool
         ensures { result ≡ cell.now.in_use }
     {
         cell.in_use
     }
 
-    fn synced(&self, cell: &DiskCell) -> Option<u64>
+    fn synced(&self, cell: &AuditedCell) -> Option<u64>
         ensures { result ≡ cell.now.synced }
     {
         cell.synced
     }
 
-    fn sync(&self, cell: &DiskCell, path: &str) -> bool {
+    fn sync(&self, cell: &AuditedCell, path: &str) -> bool {
         let synced = settle(cell.bytes.file());
         if self.words {
             say_synced(self.rt, path, &synced);
@@ -80,7 +80,7 @@ impl CellFiles for DiskCells<'_> {
         synced.is_ok()
     }
 
-    fn read(&self, cell: &mut DiskCell, piece: &mut [u8]) -> Option<usize>
+    fn read(&self, cell: &mut AuditedCell, piece: &mut [u8]) -> Option<usize>
         ensures bound { IfSome result (λ count. count ≤ length piece.new) }
         ensures room { IfSome result (λ count. count ≤ cell.old.unread) }
         ensures unread { IfSome result (λ count. cell.new.unread ≡ cell.old.unread - count) }
@@ -108,12 +108,12 @@ fn cell_of<C>(opened: io::Result<C>) -> Result<Option<C>, AllocError>
 }
 
 /// Opens the file of this path for reading as a cell.
-fn open_cell(rt: &HostRuntime, path: &str) -> io::Result<DiskCell> {
+fn open_cell(rt: &HostRuntime, path: &str) -> io::Result<AuditedCell> {
     let bytes = LiveCell::open(rt, path)?;
     if bytes.is_pipe() {
         // It can't be synced, and nobody knows which of its records are: it is taken for a cell
         // in use.
-        return Ok(DiskCell {
+        return Ok(AuditedCell {
             bytes,
             in_use: true,
             synced: None,
@@ -129,14 +129,14 @@ fn open_cell(rt: &HostRuntime, path: &str) -> io::Result<DiskCell> {
         // sync its batch, it may cut it off and append others in its place; no record counts that
         // may be mixed with those.
         let unread = bytes.file().metadata()?.len();
-        return Ok(DiskCell {
+        return Ok(AuditedCell {
             bytes,
             in_use: true,
             synced,
             unread,
         });
     }
-    Ok(DiskCell {
+    Ok(AuditedCell {
         bytes,
         in_use: false,
         synced: None,

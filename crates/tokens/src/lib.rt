@@ -1,6 +1,6 @@
 //! The tokens of a text's lines, which are called words: where a line ends, what its words are, which
-//! numbers and texts they stand for, and how a name is written as one word. Schedules, members files and printed lines are
-//! made of them.
+//! numbers and texts they stand for, and how a name is written as one word. Schedules, members files
+//! and printed lines are made of them.
 //!
 //! ```
 //! let words = split_words(alloc, line)?;
