@@ -1,6 +1,6 @@
 -- Records of which the last are set apart.
 use Rattle.std.proofs.Common.{◌≡◌, ◌-◌, ◌+◌, ℕ, List, [], ◌∷◌, ◌++◌, length, take, refl, sym, ap}
-use Rattle.std.proofs.Common.{append_assoc, arith, ◌∙◌}
+use Rattle.std.proofs.Common.{append_assoc, arith}
 use Rattle.std.specs.Prelude.{max}
 use Rattle.std.proofs.lemmas.List.{length-append}
 use Rattle.std.proofs.Math.Seq.{take-append-add}
@@ -13,37 +13,31 @@ pub none_split : (unsure : ℕ) (last : List Record) → last ≡ [] → IsSplit
 none_split unsure last none = record { parts_are = sym none; length_is = omega arith }
 
 -- nor is any sure
-pub nothing_sure : (unsure : ℕ) (records sure last : List Record) → records ≡ []
+pub nothing_sure : {unsure : ℕ} {records sure last : List Record} → records ≡ []
     → IsSplit unsure records sure last → sure ≡ []
-nothing_sure unsure records [] last none split = refl
-nothing_sure unsure records (r ∷ sure) last none split = absurd (cc (sym none ∙ split.parts_are))
+nothing_sure {sure = []} none split = refl
+nothing_sure {sure = r ∷ sure} none split = absurd (cc (none, split.parts_are))
 
 -- those that are set apart, and so many of the last, are the sure ones
-pub split_is : (first unsure : ℕ) (records sure last : List Record)
+pub split_is : (first : ℕ) {unsure : ℕ} {records sure last : List Record}
     → IsSplit unsure records sure last
     → sure ++ take (first - length sure) last ≡ sure_of first unsure records
-split_is first unsure records sure last split =
-    sym (take-append-add sure last (first - length sure))
-    ∙ ap (λ (n : ℕ). take n (sure ++ last)) (omega (arith, split.length_is))
-    ∙ ap (take (max first (length records - unsure))) (sym split.parts_are)
+split_is first {unsure} {records} {sure} {last} split =
+    let count : length sure + (first - length sure) ≡ max first (length records - unsure) =
+    omega (arith, split.length_is) in
+    rw (← take-append-add sure last (first - length sure), ← split.parts_are, count)
 
 -- with the next records some more of them are sure
-pub split_on : (unsure : ℕ) (records sure last next more left : List Record)
+pub split_on : {unsure : ℕ} {records sure last more left : List Record} (next : List Record)
     → IsSplit unsure records sure last → IsSplit unsure (last ++ next) more left
     → IsSplit unsure (records ++ next) (sure ++ more) left
-split_on unsure records sure last next more left first second = record {
-  parts_are = ap (λ (rs : List Record). rs ++ next) first.parts_are
-      ∙ append_assoc sure last next
-      ∙ ap (λ (rs : List Record). sure ++ rs) second.parts_are
-      ∙ sym (append_assoc sure more left);
-  length_is =
-      let all : length records ≡ length sure + length last =
-      ap length first.parts_are ∙ length-append sure last in
-      let both : length (last ++ next) ≡ length last + length next = length-append last next in
-      let these : length (records ++ next) ≡ length records + length next =
-      length-append records next in
-      let those : length (sure ++ more) ≡ length sure + length more = length-append sure more in
-      let one : length sure ≡ length records - unsure = first.length_is in
-      let other : length more ≡ length (last ++ next) - unsure = second.length_is in
-      omega arith;
+split_on next first second = record {
+  parts_are = rw first.parts_are (simp append_assoc (rw second.parts_are));
+  length_is = omega (
+    arith,
+    first.length_is,
+    second.length_is,
+    length-append {A = Record},
+    ap length first.parts_are,
+  );
 }

@@ -1,15 +1,20 @@
-use Rattle.std.proofs.Common.{refl}
-use Rattle.audit_command.specs.declared.standing.Standing.TheVariants.{Unknown}
-use Rattle.audit_command.proofs.CountedParts.{none_read}
+use Rattle.std.proofs.Common.{[], refl, append-nil}
+use Rattle.ledger.specs.Parts.{nothing}
+use Rattle.audit_command.proofs.Marks.{mark_begins}
+use Rattle.audit_command.proofs.SplitRecords.{none_split}
 use Rattle.audit_command.proofs.cell_reading.CellReading.new.Goals as goal
 
 pub returns : goal.returns
-returns c = λ members evidence given is.
-    none_read members c.args.rule evidence given
-    (record {
-      reader = c.new.result;
-      standing = Unknown;
-      last = c.new-2.result;
-      mark = c.new-3.result;
-    }) refl
-    c.new.ensures c.new-2.ensures.unsure c.new-2.ensures.records c.new-3.ensures is
+returns c = λ members evidence given is. (
+  nothing,
+  [],
+  record {
+    told_is = c.new.ensures;
+    standing_is = refl;
+    unsure_is = c.new-2.ensures.unsure;
+    split = none_split c.args.rule.most_unsynced c.new-2.result.records.items
+        c.new-2.ensures.records;
+    mark_is = rw c.new-3.ensures (mark_begins c.args.rule.synced);
+    counted = rw append-nil is;
+  },
+)
