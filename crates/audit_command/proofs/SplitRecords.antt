@@ -33,11 +33,5 @@ pub split_on : {unsure : ℕ} {records sure last more left : List Record} (next 
     → IsSplit unsure (records ++ next) (sure ++ more) left
 split_on next first second = record {
   parts_are = rw first.parts_are (simp append_assoc (rw second.parts_are));
-  length_is = omega (
-    arith,
-    first.length_is,
-    second.length_is,
-    length-append {A = Record},
-    ap length first.parts_are,
-  );
+  length_is = omega (arith, ap length first.parts_are, length-append {A = Record});
 }

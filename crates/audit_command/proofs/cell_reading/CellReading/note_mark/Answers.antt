@@ -1,6 +1,3 @@
-use Rattle.std.proofs.Common.{ℕ, length, subst, sym, ap, ◌∙◌}
-use Rattle.audit_command.specs.declared.mark.Mark.TheVariants.{Ahead}
-use Rattle.audit_command.specs.inner.Marks.{IsMark}
 use Rattle.audit_command.proofs.Marks.{mark_passed}
 use Rattle.audit_command.proofs.cell_reading.CellReading.note_mark.Goals as goal
 
@@ -16,9 +13,11 @@ returns-in_ok-last-clause-counted c = λ members rule evidence taken given had.
         split = its.split;
         mark_is = mark_passed rule.synced taken had.0 had.1 c.args.self.now.last.records.items
             c.in_ok-last.last c.count_if_whole.result
-            (subst (IsMark rule.synced taken (length had.1))
-            (c.in-Ahead-eq0.is ∙ ap (λ (n : ℕ). Ahead n)
-            (sym c.in-Ahead-eq0.field-0-is ∙ c.in-Ahead-eq0.field-0-test)) its.mark_is)
+            (rw (
+              c.in-Ahead-eq0.is,
+              ← c.in-Ahead-eq0.field-0-is,
+              c.in-Ahead-eq0.field-0-test,
+            ) at its.mark_is)
             its.split.parts_are (c.in_ok-last.ensures taken had.0 its.told_is).1
             c.count_if_whole.ensures;
         counted = its.counted;

@@ -10,7 +10,7 @@ returns-in_ok-count_part-in-More c = λ rule taken given had.
     let all = taken ++ c.args.piece.now in
     let mark = c.after-self.result in
     let marked : IsMark rule.synced all (length had.1) mark =
-    rw c.after-self.ensures (mark_read rule.synced taken c.args.piece.now (length had.1)
+    rw c.after-self.ensures (mark_read rule.synced taken (length had.1) c.args.piece.now
     c.args.self.now.mark c.requires had.2.mark_is) in
     part_counted had.2 c.count_part.new.evidence c.take.new.self mark c.count_part.new.self all
     c.in-More.part marked
@@ -22,7 +22,7 @@ returns-in_ok-fault-in-Last c = λ rule taken given had.
     let all = taken ++ c.args.piece.now in
     let mark = c.after-self.result in
     let marked : IsMark rule.synced all (length had.1) mark =
-    rw c.after-self.ensures (mark_read rule.synced taken c.args.piece.now (length had.1)
+    rw c.after-self.ensures (mark_read rule.synced taken (length had.1) c.args.piece.now
     c.args.self.now.mark c.requires had.2.mark_is) in
     let last = c.in-Last.last in
     let counted = c.in_ok-fault-in-Last.ensures in
