@@ -1,10 +1,9 @@
 -- One more record of a cell, and what is found of one more version.
 use Rattle.std.proofs.Common.{◌≡◌, ℕ, ◌+◌, ◌<◌, List, [], ◌∷◌, ◌++◌, length, take, get_or, refl}
-use Rattle.std.proofs.Common.{sym, ap, subst, ◌∙◌, append_assoc, Result, Ok}
-use Rattle.std.proofs.Common.{Err}
+use Rattle.std.proofs.Common.{append_assoc, ◌∙◌}
 use Rattle.std.proofs.lemmas.List.{map_push, take_more}
 use Rattle.std.proofs.lemmas.List.Sums.{fold-append}
-use Rattle.std.specs.Prelude.{map, OnOk}
+use Rattle.std.specs.Prelude.{map}
 use Rattle.indexmap.specs.IndexSet.{insert_key}
 use Rattle.fed_types.specs.Sites.{Membership}
 use Rattle.fed_types.specs.Slots.{SlotName, same_slot}
@@ -22,11 +21,6 @@ slots_push : (records : List Record) (r : Record)
 unfolding slots_of
 slots_push records r = fold-append with_slot [] records (r ∷ [])
 
--- no record
-pub no_slots : slots_of [] ≡ []
-unfolding slots_of
-no_slots = refl
-
 -- the version of the record goes to the end, if it is new
 pub one_record : (members : Membership) (old new : Evidence) (given : List SiteRecord)
     (s : SiteRecord) → IsEvidence members old given
@@ -36,10 +30,7 @@ pub one_record : (members : Membership) (old new : Evidence) (given : List SiteR
 one_record members old new given s is same stands put = record {
   members_are = same ∙ is.members_are;
   stands = stands;
-  slots = put
-      ∙ ap (λ (slots : List SlotName). insert_key same_slot slots s.kept.slot) is.slots
-      ∙ sym (slots_push (map (λ s. s.kept) given) s.kept)
-      ∙ ap slots_of (sym (map_push (λ s. s.kept) given s));
+  slots = rw (put, is.slots, map_push, slots_push);
 }
 
 -- the next record of a cell
@@ -49,14 +40,9 @@ pub next_record : (members : Membership) (e : Evidence) (given : List SiteRecord
     ((given ++ of_site site (take i records)) ++ record { site = site; kept = r } ∷ [])
     → IsEvidence members e (given ++ of_site site (take (i + 1) records))
 next_record members e given site records i r within at is =
-    let one : Record → SiteRecord = λ r. record { site = site; kept = r } in
     let more : take (i + 1) records ≡ take i records ++ r ∷ [] =
-    take_more records i r within ∙ ap (λ (x : Record). take i records ++ x ∷ []) (sym at) in
-    let all : of_site site (take (i + 1) records) ≡ of_site site (take i records) ++ one r ∷ [] =
-    ap (of_site site) more ∙ map_push one (take i records) r in
-    subst (λ (all : List SiteRecord). IsEvidence members e (given ++ all)) (sym all)
-    (subst (IsEvidence members e)
-    (append_assoc given (of_site site (take i records)) (one r ∷ [])) is)
+    cc (take_more records i r within) in
+    rw (more, map_push, ← append_assoc) is
 
 -- the next version
 pub next_slot : (versions more : List Version) (v : Version) (slots : List SlotName) (i : ℕ)
@@ -64,11 +50,4 @@ pub next_slot : (versions more : List Version) (v : Version) (slots : List SlotN
     → slot ≡ get_or slots i slot → map (λ (v : Version). v.slot) versions ≡ take i slots
     → map (λ (v : Version). v.slot) more ≡ take (i + 1) slots
 next_slot versions more v slots i slot is its within at so =
-    ap (map (λ (v : Version). v.slot)) is ∙ map_push (λ (v : Version). v.slot) versions v
-    ∙ ap (λ (front : List SlotName). front ++ v.slot ∷ []) so
-    ∙ ap (λ (x : SlotName). take i slots ++ x ∷ []) (its ∙ at)
-    ∙ sym (take_more slots i slot within)
-
-pub on_ok : {X E A B : Type 0} (r : Result X E) → OnOk r A → (A → B) → OnOk r B
-on_ok (Ok x) h f = f h
-on_ok (Err e) h f = tt
+    rw (is, map_push, so, take_more slots i slot) (cc)

@@ -3,7 +3,6 @@ pub mod CountedParts
 pub mod Joined
 pub mod SplitRecords
 pub mod TakenBytes
-pub mod WrittenAnswers
 pub mod Conflicts
 pub mod Mentions
 pub mod Marks

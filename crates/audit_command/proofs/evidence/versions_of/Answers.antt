@@ -1,7 +1,6 @@
-use Rattle.std.proofs.Common.{sym, subst, ◌∙◌}
+use Rattle.std.proofs.Common.{◌∙◌}
 use Rattle.std.proofs.lemmas.List.{take_all}
 use Rattle.std.proofs.lemmas.List.Elements.{All-push}
-use Rattle.std.specs.List.{All}
 use Rattle.fed_types.specs.Quorums.{quorums_of}
 use Rattle.audit.specs.Findings.{IsFinding}
 use Rattle.audit_command.specs.declared.version.Version.{Version}
@@ -15,9 +14,7 @@ loop-slot-preserved c = record {
       c.in_ok-push.ensures.items c.in_ok-version_of.ensures.slot c.loop-slot-test.true
       c.slot-item.is c.loop-slot.invariant.slots;
   found = λ members given is.
-      subst
-      (All (λ (v : Version). IsFinding (quorums_of members) given v.slot v.finding))
-      (sym c.in_ok-push.ensures.items)
+      rw c.in_ok-push.ensures.items
       (All-push (λ (v : Version). IsFinding (quorums_of members) given v.slot v.finding)
       c.loop-slot.versions.items c.in_ok-version_of.field-0
       (c.loop-slot.invariant.found members given is)

@@ -1,11 +1,9 @@
-use Rattle.std.proofs.Common.{◌≡◌, ◌∙◌, ℕ, List, Bool, true, Option, Some, None, IfSome, subst, sym}
-use Rattle.std.proofs.Common.{ap}
+use Rattle.std.proofs.Common.{◌≡◌, ℕ, List, Bool, true, Option, Some, None, IfSome}
 use Rattle.std.specs.Prelude.{◌||◌}
 use Rattle.fed_types.specs.Sites.{Membership}
 use Rattle.audit.specs.Evidence.{SiteRecord}
 use Rattle.audit_command.specs.declared.cell_defect.CellDefect.{CellDefect}
-use Rattle.audit_command.specs.CellReadings.{IsReadingOfBytes, IsReadingOfFile, IsReadingIf}
-use Rattle.audit_command.specs.CellReadings.{rule_for}
+use Rattle.audit_command.specs.CellReadings.{IsReadingOfBytes, IsReadingOfFile, rule_for}
 use Rattle.audit_command.specs.declared.sync_rule.SyncRule.{SyncRule}
 use Rattle.audit_command.specs.Files.{FileBytes}
 use Rattle.audit_command.proofs.gathered.add_records_in.Goals as goal
@@ -20,12 +18,7 @@ with_use : (members : Membership) (rule : SyncRule) (synced : Option ℕ) (in_us
     → IfSome left (λ file. IsReadingOfFile members (Some file) in_use fault counted)
 with_use members rule synced in_use sure fault counted None its said is holds sure_is reading = tt
 with_use members rule synced in_use sure fault counted (Some file) its said is holds sure_is reading
-    = (
-      its,
-      subst (λ (b : Bool). IsReadingIf b members in_use file fault counted) (sym holds ∙ sure_is)
-          (subst (λ (r : SyncRule). IsReadingOfBytes members r file fault counted)
-          (is ∙ ap (rule_for in_use) said) reading),
-    )
+    = (its, rw (← sure_is, holds, ← said, ← is) reading)
 
 pub returns : goal.returns
 returns g c = λ given is.
