@@ -1,5 +1,5 @@
 -- What is counted of a cell, part by part.
-use Rattle.std.proofs.Common.{◌≡◌, ◌⊎◌, ◌-◌, ℕ, List, [], ◌++◌, length, take, Option, None, Some}
+use Rattle.std.proofs.Common.{◌≡◌, ◌⊎◌, ℕ, List, [], ◌++◌, length, take, Option, None, Some}
 use Rattle.std.proofs.Common.{ap, refl, ◌∙◌, inl, inr, append_assoc, true}
 use Rattle.std.proofs.lemmas.List.{map-append, length-append}
 use Rattle.std.specs.Prelude.{IsSome}
@@ -15,6 +15,7 @@ use Rattle.ledger.specs.declared.part.Part.{Part}
 use Rattle.ledger.specs.Cells.{Said, IsSaid}
 use Rattle.ledger.specs.Parts.{Told, nothing, and_part, told_of, Fits, HasTold, HasToldBy, IsWhole}
 use Rattle.ledger.specs.Parts.{IsDamaged, TellsLast}
+use Rattle.audit.specs.Evidence.{SiteRecord}
 use Rattle.audit_command.specs.declared.cell_defect.CellDefect.{CellDefect}
 use Rattle.audit_command.specs.declared.cell_reading.CellReading.{CellReading}
 use Rattle.audit_command.specs.declared.evidence.Evidence.{Evidence}
@@ -22,7 +23,6 @@ use Rattle.audit_command.specs.declared.standing.Standing.{Standing}
 use Rattle.audit_command.specs.declared.standing.Standing.TheVariants.{Unknown, Member, Foreign}
 use Rattle.audit_command.specs.declared.mark.Mark.{Mark}
 use Rattle.audit_command.specs.declared.sync_rule.SyncRule.{SyncRule}
-use Rattle.audit.specs.Evidence.{SiteRecord}
 use Rattle.audit_command.specs.CellReadings.{IsMembers, IsReadingOf, AreSynced, head_of, sure_of}
 use Rattle.audit_command.specs.inner.Gathered.{IsEvidence}
 use Rattle.audit_command.specs.inner.Standings.{IsStanding, IsStandingAfter, HasStanding, IsSplit}
@@ -60,17 +60,15 @@ named_so_far (Some owner) passed kept taken told h head is = cc (h.head_is, is)
 -- ---- one more part
 
 none_counted : (standing : Standing) → counted_as standing [] ≡ []
-none_counted Unknown = refl
 none_counted (Member site) = refl
-none_counted Foreign = refl
+none_counted _ = refl
 
 pub more_counted : (standing : Standing) (records more : List Record)
     → counted_as standing (records ++ more)
     ≡ counted_as standing records ++ counted_as standing more
-more_counted Unknown records more = refl
 more_counted (Member site) records more =
     map-append (λ r. record { site = site; kept = r }) records more
-more_counted Foreign records more = refl
+more_counted _ records more = refl
 
 -- whose a cell is whose header names the weights doesn't depend on its records
 still_members : (members : Membership) (head : Head) (records more : List Record)
@@ -83,8 +81,7 @@ by_first : (members : Membership) (head : Head) (records : List Record) (standin
     → IsStanding members head records standing
     → HasStanding members (record { head = Some head; records = records }) standing
 by_first members head records Unknown h = absurd h
-by_first members head records (Member site) h = (head, refl, h)
-by_first members head records Foreign h = (head, refl, h)
+by_first members head records _ h = (head, refl, h)
 
 module _ (members : Membership) (told : Told) (records sure : List Record)
     (none_sure : told ≡ nothing → sure ≡ []) where
@@ -147,9 +144,7 @@ module _ (members : Membership) (rule : SyncRule) (bytes : List ℕ) (n : ℕ)
   read_whole all ending standing (inl (said, is, e, t)) h =
       rw (← e, t) (read_said said standing is (rw t at h))
   read_whole all ending Unknown (inr (no_owner, ends, t)) none = inl (no_owner, (refl, refl))
-  read_whole all ending (Member site) (inr (no_owner, ends, t)) (head, its, h) =
-      absurd (cc (t, its))
-  read_whole all ending Foreign (inr (no_owner, ends, t)) (head, its, h) = absurd (cc (t, its))
+  read_whole all ending _ (inr (no_owner, ends, t)) (head, its, h) = absurd (cc (t, its))
 
 -- ---- a part was counted
 
@@ -244,6 +239,5 @@ module _ {members : Membership} {rule : SyncRule} {old : Evidence} {taken : List
 -- of a damaged cell something is amiss
 pub damage_amiss : (standing : Standing) (ending : Ending) → IsDamaged ending
     → IsSome (fault_of standing ending)
-damage_amiss Unknown ending damaged = refl
 damage_amiss (Member site) ending (place, is) = rw is
-damage_amiss Foreign ending damaged = refl
+damage_amiss _ ending damaged = refl

@@ -7,7 +7,7 @@ use Rattle.records.specs.declared.layout.Layout.{Layout}
 use Rattle.records.specs.declared.layout.Layout.TheVariants.{First, Second}
 use Rattle.records.specs.declared.owner.Owner.{Owner}
 use Rattle.records.specs.declared.record.Record.{Record}
-use Rattle.records.specs.Layout.{all_encoded, old_header, header_of, record_bytes}
+use Rattle.records.specs.Layout.{all_encoded, old_header, record_bytes}
 use Rattle.records.specs.Records.{AreRecords}
 use Rattle.records.specs.Starts.{Start, Old, New, Carried, IsCurrent, records_of}
 use Rattle.records.specs.Journals.{DecodesTo, Reaches}
@@ -45,18 +45,15 @@ module _ (owner : Owner) where
   after_old x y e = ap (drop 13) e
 
   -- a whole text, and a start and records with which the same bytes begin
-  first_of : (s t : Start) (ws all_bytes : List ℕ) (all first : List Record) (y : List ℕ)
-      → IsCurrent ws s → Reaches owner all_bytes s all [] → Reaches owner all_bytes t first y
+  first_of : (s t : Start) (ws bytes : List ℕ) (all first : List Record) (y : List ℕ)
+      → IsCurrent ws s → Reaches owner bytes s all [] → Reaches owner bytes t first y
       → Begins (records_of t first) (records_of s all)
   first_of Old t ws bytes all first y current whole part = absurd current
-  first_of (New vs) Old ws bytes all first y current whole part =
-      let e = simp append_assoc at (sym part.bytes_are ∙ whole.bytes_are) in
-      absurd (old_or_new owner vs _ _ e)
   first_of (New vs) (New us) ws bytes all first y current whole part =
       let e = simp append_assoc at (sym whole.bytes_are ∙ part.bytes_are) in
       first_records Second all first [] y whole.are_records part.are_records
       (none_of_nothing Second) (same_weights owner vs us _ _ e).1
-  first_of (New vs) (Carried os us) ws bytes all first y current whole part =
+  first_of (New vs) _ ws bytes all first y current whole part =
       let e = simp append_assoc at (sym part.bytes_are ∙ whole.bytes_are) in
       absurd (old_or_new owner vs _ _ e)
   first_of (Carried os vs) Old ws bytes all first y current whole part =

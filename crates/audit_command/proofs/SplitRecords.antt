@@ -1,5 +1,5 @@
 -- Records of which the last are set apart.
-use Rattle.std.proofs.Common.{◌≡◌, ◌-◌, ◌+◌, ℕ, List, [], ◌∷◌, ◌++◌, length, take, refl, sym, ap}
+use Rattle.std.proofs.Common.{◌≡◌, ◌-◌, ◌+◌, ℕ, List, [], ◌∷◌, ◌++◌, length, take, refl, ap}
 use Rattle.std.proofs.Common.{append_assoc, arith}
 use Rattle.std.specs.Prelude.{max}
 use Rattle.std.proofs.lemmas.List.{length-append}
@@ -8,11 +8,7 @@ use Rattle.records.specs.declared.record.Record.{Record}
 use Rattle.audit_command.specs.CellReadings.{sure_of}
 use Rattle.audit_command.specs.inner.Standings.{IsSplit}
 
--- of no records none is set apart
-pub none_split : (unsure : ℕ) (last : List Record) → last ≡ [] → IsSplit unsure [] [] last
-none_split unsure last none = record { parts_are = sym none; length_is = omega arith }
-
--- nor is any sure
+-- of no records none is sure
 pub nothing_sure : {unsure : ℕ} {records sure last : List Record} → records ≡ []
     → IsSplit unsure records sure last → sure ≡ []
 nothing_sure {sure = []} none split = refl

@@ -1,6 +1,6 @@
 -- What was read of a file.
 use Rattle.std.proofs.Common.{◌≡◌, ◌≢◌, ℕ, zero, suc, List, [], ◌++◌, take, Option, None, Some}
-use Rattle.std.proofs.Common.{Bool, true, false, refl, append_assoc, append-nil, IfSome}
+use Rattle.std.proofs.Common.{Bool, false, refl, append_assoc, append-nil, IfSome}
 use Rattle.std.specs.Prelude.{IsSome}
 use Rattle.fed_types.specs.Sites.{Membership}
 use Rattle.audit.specs.Evidence.{SiteRecord}
@@ -64,6 +64,5 @@ module _ (members : Membership) (rule : SyncRule) (evidence : Evidence) (given :
       where
         same : (whole : Bool) (fault : Option CellDefect) → IsSome fault
             → fault ≡ or_unread whole fault
-        same true fault some = refl
-        same false (Some fault) some = refl
         same false None some = absurd (cc some)
+        same _ _ some = refl

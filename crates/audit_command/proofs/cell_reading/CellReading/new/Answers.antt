@@ -1,7 +1,6 @@
-use Rattle.std.proofs.Common.{[], refl, append-nil}
+use Rattle.std.proofs.Common.{[], refl, arith, append-nil}
 use Rattle.ledger.specs.Parts.{nothing}
 use Rattle.audit_command.proofs.Marks.{mark_begins}
-use Rattle.audit_command.proofs.SplitRecords.{none_split}
 use Rattle.audit_command.proofs.cell_reading.CellReading.new.Goals as goal
 
 pub returns : goal.returns
@@ -12,8 +11,7 @@ returns c = λ members evidence given is. (
     told_is = c.new.ensures;
     standing_is = refl;
     unsure_is = c.new-2.ensures.unsure;
-    split = none_split c.args.rule.most_unsynced c.new-2.result.records.items
-        c.new-2.ensures.records;
+    split = record { parts_are = rw c.new-2.ensures.records; length_is = omega arith };
     mark_is = rw c.new-3.ensures (mark_begins c.args.rule.synced);
     counted = rw append-nil is;
   },
