@@ -1,62 +1,51 @@
 -- What is waited for between rounds, one round after another.
-use Rattle.std.proofs.Common.{◌≡◌, ℕ, suc, ◌+◌, ◌-◌, Bool, true, false}
-use Rattle.std.proofs.Common.{List, [], ◌∷◌, ◌++◌, length, Option, Some, None, refl, sym, ap, subst}
-use Rattle.std.proofs.Common.{◌∙◌, append_assoc, append-nil, inl, inr, arith, cond, not}
+use Rattle.std.proofs.Common.{◌≡◌, ℕ, suc, ◌+◌, ◌-◌, Bool, true, false, List, [], ◌∷◌, ◌++◌, length}
+use Rattle.std.proofs.Common.{Option, Some, None, refl, sym, subst, ◌∙◌, append_assoc, append-nil}
+use Rattle.std.proofs.Common.{inl, inr, arith, cond, not}
 use Rattle.std.proofs.lemmas.List.Elements.{All-nil, All-cons, All-head, All-tail}
 use Rattle.std.specs.Prelude.{◌≢◌, ◌⊎◌, ◌↔◌, IsTrue, filter}
 use Rattle.std.specs.List.{All}
 use Rattle.known_bags.specs.declared.known_bag.KnownBag.{KnownBag}
 use Rattle.catch_up.specs.Rounds.{Answer, open_of, left_of, left_after}
 use Rattle.catch_up.specs.Times.{Beat, Read, Paused, Beats, is_over, pause_after, ArePauses}
-use Rattle.catch_up.specs.Times.{LeaveSome, ReadsOver, WaitsForRound, most_rounds, AreLast}
-use Rattle.catch_up.specs.Times.{ArePaced}
+use Rattle.catch_up.specs.Times.{LeaveSome, WaitsForRound, most_rounds, ArePaced}
 use Rattle.catch_up.specs.Times.{AreSoManyRounds, AreAllRounds}
 use Rattle.catch_up.specs.inner.Progress.{IsNext}
 
 pub Beats-none : (a : Option (List Beat)) → Beats a a []
 Beats-none None = tt
-Beats-none (Some x) = ap (λ (l : List Beat). Some l) (sym (append-nil x))
+Beats-none (Some x) = rw append-nil
 
 pub Beats-trans : (a b c : Option (List Beat)) (m n : List Beat) → Beats a b m → Beats b c n
     → Beats a c (m ++ n)
 Beats-trans None b c m n p q = tt
-Beats-trans (Some x) b c m n p q =
-    let then : c ≡ Some ((x ++ m) ++ n) = subst (λ (o : Option (List Beat)). Beats o c n) p q in
-    then ∙ ap (λ (l : List Beat). Some l) (append_assoc x m n)
+Beats-trans (Some x) b c m n p q = rw (← append_assoc x m n) (rw p at q)
 
 -- ---- what a round leaves
 
--- nothing is left where all are known
-opened : (v : KnownBag) (vs : List KnownBag) (t : Bool) → t ≡ true → open_of vs ≡ []
-    → cond (not t) (v ∷ filter (λ v. not v.is_found) vs) (filter (λ v. not v.is_found) vs) ≡ []
-unfolding open_of
-opened v vs true is none = none
-opened v vs false is none = absurd (cc is)
+-- the site knows its bag
+abbrev IsFound : KnownBag → Type 0
+IsFound v = v.is_found ≡ true
 
-pub none_open : (vs : List KnownBag) → All (λ v. v.is_found ≡ true) vs → open_of vs ≡ []
+-- nothing is left where all are known
+none_open : (vs : List KnownBag) → All IsFound vs → open_of vs ≡ []
 unfolding open_of
 none_open [] all = refl
 none_open (v ∷ vs) all =
-    opened v vs v.is_found (All-head (λ (v : KnownBag). v.is_found ≡ true) v vs all)
-    (none_open vs (All-tail (λ (v : KnownBag). v.is_found ≡ true) v vs all))
+    rw (All-head IsFound v vs all) (none_open vs (All-tail IsFound v vs all))
 
 found_too : (v : KnownBag) (vs : List KnownBag) (t : Bool) → v.is_found ≡ t
-    → (open_of vs ≡ [] → All (λ v. v.is_found ≡ true) vs)
+    → (open_of vs ≡ [] → All IsFound vs)
     → cond (not t) (v ∷ filter (λ v. not v.is_found) vs) (filter (λ v. not v.is_found) vs) ≡ []
-    → All (λ v. v.is_found ≡ true) (v ∷ vs)
+    → All IsFound (v ∷ vs)
 unfolding open_of
-found_too v vs true is others none =
-    All-cons (λ (v : KnownBag). v.is_found ≡ true) v vs is (others none)
+found_too v vs true is others none = All-cons IsFound v vs is (others none)
 found_too v vs false is others none = absurd (cc none)
 
-pub all_found : (vs : List KnownBag) → open_of vs ≡ [] → All (λ v. v.is_found ≡ true) vs
+all_found : (vs : List KnownBag) → open_of vs ≡ [] → All IsFound vs
 unfolding open_of
-all_found [] none = All-nil (λ v. v.is_found ≡ true)
+all_found [] none = All-nil IsFound
 all_found (v ∷ vs) none = found_too v vs v.is_found refl (all_found vs) none
-
-pub no_length : (rounds : List (List Answer)) → length rounds ≡ 0 → rounds ≡ []
-no_length [] is = refl
-no_length (us ∷ rounds) is = absurd (omega arith)
 
 leave_more : (vs : List KnownBag) (bs : List Answer) (rounds : List (List Answer))
     (us : List Answer) → LeaveSome vs (bs ∷ rounds) → left_after vs (bs ∷ rounds) ≢ []
@@ -67,10 +56,10 @@ leave_more vs bs (cs ∷ rounds) us (left, leave) some =
 
 -- there is another round if there was none, or if the last one left something
 pub leave_then : (vs : List KnownBag) (rounds : List (List Answer)) (us : List Answer)
-    → LeaveSome vs rounds → (rounds ≡ []) ⊎ (left_after vs rounds ≢ [])
+    → LeaveSome vs rounds → (length rounds ≡ 0) ⊎ (left_after vs rounds ≢ [])
     → LeaveSome vs (rounds ++ us ∷ [])
 leave_then vs [] us leave why = tt
-leave_then vs (bs ∷ rounds) us leave (inl none) = absurd (cc none)
+leave_then vs (bs ∷ rounds) us leave (inl none) = absurd (omega arith)
 leave_then vs (bs ∷ rounds) us leave (inr some) = leave_more vs bs rounds us leave some
 
 -- ---- the pauses so far
@@ -88,49 +77,32 @@ IsAwaited seconds left rounds old new =
     × ((rounds ≡ 0) ⊎ (left ≢ []))
 
 module _ (s : ℕ) (t : Option (List Beat)) where
-  pub no_pauses : (rounds : ℕ) → rounds ≡ 0 → ArePausesOf s rounds t t
-  no_pauses rounds none =
-      let is : 0 ≡ rounds - 1 = omega (arith, none) in
-      ([], Beats-none t, subst (λ (k : ℕ). ArePauses s k []) is refl)
+  pub no_pauses : ArePausesOf s 0 t t
+  no_pauses = ([], Beats-none t, refl)
 
   pub awaited : (left : List KnownBag) (rounds : ℕ) (u v : Option (List Beat))
       → ArePausesOf s rounds t u → IsNext s left rounds u v true → IsAwaited s left rounds t v
-  awaited left rounds u v (pauses, beats, are) (inl (none, idle)) =
-      let is : rounds - 1 ≡ rounds = omega (arith, none) in (
-        (
-          pauses ++ [],
-          Beats-trans t u v pauses [] beats idle,
-          subst (λ (k : ℕ). ArePauses s k (pauses ++ [])) is
-              (subst (λ (l : List Beat). ArePauses s (rounds - 1) l) (sym (append-nil pauses))
-              are),
-        ),
-        inl none,
-      )
-  awaited left rounds u v (pauses, beats, are) (inr (more, some, (passed, paused, isnt))) = (
-    (
-      pauses ++ Read (Some passed) ∷ Paused (pause_after (rounds - 1)) ∷ [],
-      Beats-trans t u v pauses (Read (Some passed) ∷ Paused (pause_after (rounds - 1)) ∷ []) beats
-          paused,
-      one_more rounds (rounds - 1) (omega (arith, more)) pauses passed isnt are,
-    ),
-    inr some,
+  awaited left rounds u v (pauses, beats, are) (inl (none, idle)) = (
+    (pauses ++ [], Beats-trans t u v _ _ beats idle, rw (append-nil, none) (rw none at are)),
+    inl none,
   )
-    where
-      one_more : (rounds earlier : ℕ) → rounds ≡ suc earlier → (pauses : List Beat) (passed : ℕ)
-          → is_over s (Some passed) ≡ false → ArePauses s earlier pauses
-          → ArePauses s rounds (pauses ++ Read (Some passed) ∷ Paused (pause_after earlier) ∷ [])
-      one_more rounds earlier is pauses passed isnt are =
-          subst
-          (λ (k : ℕ). ArePauses s k
-          (pauses ++ Read (Some passed) ∷ Paused (pause_after earlier) ∷ []))
-          (sym is) (pauses, passed, refl, isnt, are)
+  awaited left rounds u v (pauses, beats, are) (inr (more, some, (passed, paused, isnt))) =
+      let pause = Read (Some passed) ∷ Paused (pause_after (rounds - 1)) ∷ [] in
+      let is : suc (rounds - 1) ≡ rounds = omega (arith, more) in (
+        (
+          pauses ++ pause,
+          Beats-trans t u v _ _ beats paused,
+          subst (λ (k : ℕ). ArePauses s k (pauses ++ pause)) is (pauses, passed, refl, isnt, are),
+        ),
+        inr some,
+      )
 
   -- the round that was awaited is done
-  pub after_round : (left : List KnownBag) (rounds next : ℕ) (u : Option (List Beat))
-      → next ≡ rounds + 1 → IsAwaited s left rounds t u → ArePausesOf s next t u
-  after_round left rounds next u is ((pauses, beats, are), some) =
-      let its : rounds ≡ next - 1 = omega (arith, is) in
-      (pauses, beats, subst (λ (k : ℕ). ArePauses s k pauses) its are)
+  pub after_round : (left : List KnownBag) (rounds : ℕ) (u : Option (List Beat))
+      → IsAwaited s left rounds t u → ArePausesOf s (rounds + 1) t u
+  after_round left rounds u ((pauses, beats, are), some) =
+      let its : rounds + 1 - 1 ≡ rounds = omega arith in
+      (pauses, beats, rw its are)
 
 module _ (s : ℕ) (vs : List KnownBag) (rounds : List (List Answer)) (t : Option (List Beat)) where
   -- no round after these
@@ -142,29 +114,18 @@ module _ (s : ℕ) (vs : List KnownBag) (rounds : List (List Answer)) (t : Optio
     (
       pauses,
       last,
-      Beats-trans t u v pauses last beats ended,
-      subst (λ (k : ℕ). ArePauses s (k - 1) pauses) (sym so_many) are,
-      go why,
+      Beats-trans t u v _ _ beats ended,
+      rw so_many are,
+      elim (rw kept at why) [ inl none ↦ inl none | inr over ↦ inr (inl over) ],
     ),
   )
-    where
-      go : ((now ≡ []) × (last ≡ [])) ⊎ ((now ≢ []) × ReadsOver s last)
-          → AreLast s vs rounds last
-      go (inl (none, idle)) = inl (sym kept ∙ none, idle)
-      go (inr (some, over)) = inr (inl ((λ none. some (kept ∙ none)), over))
 
   -- no more rounds can be counted
   pub most_of : (u : Option (List Beat)) (count : ℕ) → length rounds ≡ count → count ≡ most_rounds
       → LeaveSome vs rounds → ArePausesOf s count t u → AreAllRounds s vs rounds t u
   most_of u count so_many most leave (pauses, beats, are) = (
     leave,
-    (
-      pauses,
-      [],
-      subst (Beats t u) (sym (append-nil pauses)) beats,
-      subst (λ (k : ℕ). ArePauses s (k - 1) pauses) (sym so_many) are,
-      inr (inr (so_many ∙ most, refl)),
-    ),
+    (pauses, [], rw append-nil beats, rw so_many are, inr (inr (so_many ∙ most, refl))),
   )
 
   -- the rounds stop in the last of these
@@ -172,16 +133,8 @@ module _ (s : ℕ) (vs : List KnownBag) (rounds : List (List Answer)) (t : Optio
       → LeaveSome vs rounds → ((pauses : List Beat) × Beats t u pauses × ArePauses s count pauses)
       → ArePaced s vs rounds t u (λ last. last ≡ [])
   stops_in u count so_many leave (pauses, beats, are) =
-      let its : count ≡ length rounds - 1 = omega (arith, so_many) in (
-        leave,
-        (
-          pauses,
-          [],
-          subst (Beats t u) (sym (append-nil pauses)) beats,
-          subst (λ (k : ℕ). ArePauses s k pauses) its are,
-          refl,
-        ),
-      )
+      let its : length rounds - 1 ≡ count = omega (arith, so_many) in
+      (leave, (pauses, [], rw append-nil beats, rw its are, refl))
 
   pub not_to_the_end : (u : Option (List Beat)) → ArePaced s vs rounds t u (λ last. last ≡ [])
       → AreSoManyRounds s vs rounds t u
@@ -195,33 +148,26 @@ module _ (s : ℕ) (vs : List KnownBag) (rounds : List (List Answer)) (t : Optio
 
 -- ---- whether there is another round
 
-module _ (s pauses : ℕ) (a b : Option (List Beat)) (over : Bool)
-    (read : (time : Option ℕ) × Beats a b (Read time ∷ []) × (over ≡ is_over s time)) where
+-- it was read whether the time is over
+abbrev IsRead : (seconds : ℕ) → (old new : Option (List Beat)) → Bool → Type 0
+IsRead seconds old new over =
+    (time : Option ℕ) × Beats old new (Read time ∷ []) × (over ≡ is_over seconds time)
+
+module _ (s pauses : ℕ) (a b : Option (List Beat)) (over : Bool) where
   -- the time is over
-  pub is_late : over ≡ true → WaitsForRound s pauses a b false
-  is_late late = go read
-    where
-      go : (time : Option ℕ) × Beats a b (Read time ∷ []) × (over ≡ is_over s time)
-          → WaitsForRound s pauses a b false
-      go (time, beats, same) = (Read time ∷ [], beats, (time, refl, sym same ∙ late))
+  pub is_late : IsRead s a b over → over ≡ true → WaitsForRound s pauses a b false
+  is_late (time, beats, same) late = (Read time ∷ [], beats, (time, refl, sym same ∙ late))
 
   -- there is time, and it is waited for
-  pub goes_on : over ≡ false → (c : Option (List Beat)) (millis : ℕ) → millis ≡ pause_after pauses
-      → Beats b c (Paused millis ∷ []) → WaitsForRound s pauses a c true
-  goes_on early c millis long paused = go read
-    where
-      go : (time : Option ℕ) × Beats a b (Read time ∷ []) × (over ≡ is_over s time)
-          → WaitsForRound s pauses a c true
-      go (None, beats, same) = absurd (cc (sym same ∙ early))
-      go (Some passed, beats, same) = (
-        passed,
-        Beats-trans a b c (Read (Some passed) ∷ []) (Paused (pause_after pauses) ∷ []) beats
-            (subst (λ (k : ℕ). Beats b c (Paused k ∷ [])) long paused),
-        sym same ∙ early,
-      )
+  pub goes_on : (c : Option (List Beat)) (millis : ℕ) → IsRead s a b over → over ≡ false
+      → millis ≡ pause_after pauses → Beats b c (Paused millis ∷ [])
+      → WaitsForRound s pauses a c true
+  goes_on c millis (None, beats, same) early long paused = absurd (cc (sym same ∙ early))
+  goes_on c millis (Some passed, beats, same) early long paused =
+      (passed, Beats-trans a b c _ _ beats (rw long at paused), sym same ∙ early)
 
 module _ (s : ℕ) (vs : List KnownBag) (rounds : ℕ) (some : rounds ≢ 0) (known : Bool)
-    (is : IsTrue known ↔ All (λ v. v.is_found ≡ true) vs) where
+    (is : IsTrue known ↔ All IsFound vs) where
   -- nothing is left
   pub none_left : known ≡ true → (a : Option (List Beat)) → IsNext s (open_of vs) rounds a a false
   none_left all a =

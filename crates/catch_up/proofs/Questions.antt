@@ -1,44 +1,38 @@
 -- A site that is asked for some versions, and then for others.
-use Rattle.std.proofs.Common.{◌≡◌, ℕ, ◌+◌, ◌≤◌, Bool, true, false, not, cond, List, [], ◌∷◌, ◌++◌}
-use Rattle.std.proofs.Common.{length}
-use Rattle.std.proofs.Common.{Option, Some, None, Result, Ok, Err, refl, sym, ap, subst, ◌∙◌}
-use Rattle.std.proofs.Common.{inl, inr}
-use Rattle.std.proofs.Common.{append_assoc, append-nil}
+use Rattle.std.proofs.Common.{◌≡◌, ℕ, ◌+◌, ◌≤◌, false, not, List, [], ◌∷◌, ◌++◌, length}
+use Rattle.std.proofs.Common.{Option, Some, None, Ok, Err, refl, ◌∙◌, append_assoc, append-nil}
 use Rattle.std.proofs.Common.{arith}
 use Rattle.std.proofs.KnownBytes.{Appends-nil, Appends-trans}
+use Rattle.std.proofs.lemmas.Bool.Decides.{nat_tests}
 use Rattle.std.proofs.lemmas.List.{length-append}
 use Rattle.std.proofs.lemmas.List.Filters.{length-filter_both}
-use Rattle.std.specs.Prelude.{IsErrAnd, ◌≢◌, ◌⊎◌}
-use Rattle.std.specs.Io.KnownBytes.{Appends}
+use Rattle.std.specs.Prelude.{◌≢◌, ◌⊎◌}
 use Rattle.known_bags.specs.declared.known_bag.KnownBag.{KnownBag}
-use Rattle.udp_site.specs.Traffic.{Move, Grows}
+use Rattle.udp_site.specs.Traffic.{Move}
 use Rattle.udp_site.proofs.Growth.{Grows-trans, Grows-none}
 use Rattle.catch_up.specs.declared.said_answers.AskFault.{AskFault}
 use Rattle.catch_up.specs.declared.rounds.Target.{Target}
-use Rattle.catch_up.specs.Rounds.{Answer, AreAnswers, answer_line, answer_lines, is_same, same_in}
-use Rattle.catch_up.specs.Rounds.{left_by, left_of, AreRounds, AreWhole, round_lines, same_after}
+use Rattle.catch_up.specs.Rounds.{Answer, AreAnswers, answer_lines, same_in}
+use Rattle.catch_up.specs.Rounds.{left_of, AreRounds, AreWhole, round_lines, same_after}
 use Rattle.catch_up.specs.Rounds.{left_after, next_round, round_after, last_round, open_of}
 use Rattle.catch_up.specs.inner.Progress.{GoesOn, StopsIn, GoesOnRounds, StopsInRounds}
-use Rattle.catch_up.specs.inner.Progress.{AppendsPart, OnlyAsked, IsRound, AreAsked}
+use Rattle.catch_up.specs.inner.Progress.{IsRound, AreAsked, IsNext}
 use Rattle.catch_up.specs.Times.{Beat, LeaveSome, most_rounds}
-use Rattle.catch_up.specs.inner.Progress.{IsNext}
 use Rattle.catch_up.proofs.Parts.{then_part}
-use Rattle.catch_up.proofs.Paces.{no_length, leave_then, ArePausesOf, IsAwaited, last_of, most_of}
-use Rattle.catch_up.proofs.Paces.{stops_in}
+use Rattle.catch_up.proofs.Paces.{leave_then, ArePausesOf, IsAwaited, last_of, most_of, stops_in}
 
 -- ---- some versions, and others
 
 answers_then : (asked : Target) (xs ys : List KnownBag) (us bs : List Answer) (m n : List Move)
     → length us ≡ length xs → AreAnswers asked xs us m → AreAnswers asked ys bs n
     → AreAnswers asked (xs ++ ys) (us ++ bs) (m ++ n)
-answers_then asked [] ys [] bs m n count p q =
-    subst (λ (k : List Move). AreAnswers asked ys bs (k ++ n)) (sym p) q
+answers_then asked [] ys [] bs m n count p q = rw p q
 answers_then asked [] ys (a ∷ us) bs m n count p q = absurd p
 answers_then asked (v ∷ xs) ys [] bs m n count p q = absurd (omega arith)
 answers_then asked (v ∷ xs) ys (a ∷ us) bs m n count (first, rest, is, one, more) q = (
   first,
   rest ++ n,
-  ap (λ (k : List Move). k ++ n) is ∙ append_assoc first rest n,
+  rw (is, append_assoc first rest n),
   one,
   answers_then asked xs ys us bs rest n (omega arith) more q,
 )
@@ -46,13 +40,9 @@ answers_then asked (v ∷ xs) ys (a ∷ us) bs m n count (first, rest, is, one, 
 -- the others may not be asked for
 answers_within : (asked : Target) (xs ys : List KnownBag) (us : List Answer) (m : List Move)
     → AreAnswers asked xs us m → AreAnswers asked (xs ++ ys) us m
-answers_within asked [] ys [] m p = none_asked asked ys m p
-  where
-    none_asked : (asked : Target) (ys : List KnownBag) (m : List Move) → m ≡ []
-        → AreAnswers asked ys [] m
-    none_asked asked [] m p = p
-    none_asked asked (y ∷ ys) m p = p
-answers_within asked [] ys (a ∷ us) m p = absurd p
+answers_within asked [] [] us m p = p
+answers_within asked [] (y ∷ ys) [] m p = p
+answers_within asked [] (y ∷ ys) (a ∷ us) m p = absurd p
 answers_within asked (v ∷ xs) ys [] m p = p
 answers_within asked (v ∷ xs) ys (a ∷ us) m (first, rest, is, one, more) =
     (first, rest, is, one, answers_within asked xs ys us rest more)
@@ -63,34 +53,24 @@ lines_then [] ys [] bs count = refl
 lines_then [] ys (a ∷ us) bs count = absurd (omega arith)
 lines_then (v ∷ xs) ys [] bs count = absurd (omega arith)
 lines_then (v ∷ xs) ys (a ∷ us) bs count =
-    ap (λ (l : List ℕ). answer_line v a ++ l) (lines_then xs ys us bs (omega arith))
-    ∙ sym (append_assoc (answer_line v a) (answer_lines xs us) (answer_lines ys bs))
+    rw (lines_then xs ys us bs (omega arith), append_assoc)
 
 lines_within : (asked : Target) (xs ys : List KnownBag) (us : List Answer) (m : List Move)
-    → AreAnswers asked xs us m → answer_lines xs us ≡ answer_lines (xs ++ ys) us
-lines_within asked [] ys [] m p = no_lines ys
-  where
-    no_lines : (ys : List KnownBag) → answer_lines [] [] ≡ answer_lines ys []
-    no_lines [] = refl
-    no_lines (y ∷ ys) = refl
-lines_within asked [] ys (a ∷ us) m p = absurd p
+    → AreAnswers asked xs us m → answer_lines (xs ++ ys) us ≡ answer_lines xs us
+lines_within asked [] [] us m p = refl
+lines_within asked [] (y ∷ ys) [] m p = refl
+lines_within asked [] (y ∷ ys) (a ∷ us) m p = absurd p
 lines_within asked (v ∷ xs) ys [] m p = refl
 lines_within asked (v ∷ xs) ys (a ∷ us) m (first, rest, is, one, more) =
-    ap (λ (l : List ℕ). answer_line v a ++ l) (lines_within asked xs ys us rest more)
-
-left_both : (v : KnownBag) (a : Answer) (xs ys : List KnownBag)
-    → left_by v a (xs ++ ys) ≡ left_by v a xs ++ ys
-left_both v None xs ys = refl
-left_both v (Some bag) xs ys = refl
+    rw (lines_within asked xs ys us rest more)
 
 pub left_then : (xs ys : List KnownBag) (us bs : List Answer) → length us ≡ length xs
     → left_of (xs ++ ys) (us ++ bs) ≡ left_of xs us ++ left_of ys bs
 left_then [] ys [] bs count = refl
 left_then [] ys (a ∷ us) bs count = absurd (omega arith)
 left_then (v ∷ xs) ys [] bs count = absurd (omega arith)
-left_then (v ∷ xs) ys (a ∷ us) bs count =
-    ap (left_by v a) (left_then xs ys us bs (omega arith))
-    ∙ left_both v a (left_of xs us) (left_of ys bs)
+left_then (v ∷ xs) ys (None ∷ us) bs count = rw (left_then xs ys us bs (omega arith))
+left_then (v ∷ xs) ys (Some bag ∷ us) bs count = left_then xs ys us bs (omega arith)
 
 pub same_then : (xs ys : List KnownBag) (us bs : List Answer) → length us ≡ length xs
     → same_in (xs ++ ys) (us ++ bs) ≡ same_in xs us + same_in ys bs
@@ -101,18 +81,13 @@ same_then (v ∷ xs) ys (a ∷ us) bs count =
     omega (arith, same_then xs ys us bs (omega arith))
 
 -- no more are the same than are asked for
-one_at_most : (b : Bool) → cond b 1 0 ≤ 1
-one_at_most true = omega arith
-one_at_most false = omega arith
-
 pub same_bound : (xs : List KnownBag) (us : List Answer)
     → same_in xs us + length (left_of xs us) ≤ length xs
 same_bound [] [] = omega arith
 same_bound (v ∷ xs) [] = omega arith
 same_bound [] (a ∷ us) = omega arith
 same_bound (v ∷ xs) (None ∷ us) = omega (arith, same_bound xs us)
-same_bound (v ∷ xs) (Some bag ∷ us) =
-    omega (arith, same_bound xs us, one_at_most (is_same v (Some bag)))
+same_bound (v ∷ xs) (Some bag ∷ us) = grind (arith, nat_tests, same_bound xs us)
 
 -- no more are open than there are
 pub open_at_most : (xs : List KnownBag) → length (open_of xs) ≤ length xs
@@ -137,11 +112,8 @@ module _ (asked : Target) where
         moves ++ others,
         Grows-trans a b c moves others grows more,
         answers_then asked xs ys us bs moves others count are are_more,
-        length-append us bs
-            ∙ (ap (λ (k : ℕ). k + length bs) count ∙ ap (λ (k : ℕ). length xs + k) count_more)
-            ∙ sym (length-append xs ys),
-        subst (Appends o p) (sym (lines_then xs ys us bs count))
-            (Appends-trans o n p (answer_lines xs us) (answer_lines ys bs) lines lines_more),
+        simp length-append (cc),
+        rw (lines_then xs ys us bs count) (Appends-trans o n p _ _ lines lines_more),
       )
 
   pub stops_then : (xs ys : List KnownBag) (a b c : Option (List Move)) (o n p : Option (List ℕ))
@@ -152,12 +124,10 @@ module _ (asked : Target) where
         us ++ bs,
         moves ++ some,
         others,
-        subst (Grows a c) (sym (append_assoc moves some others))
-            (Grows-trans a b c moves (some ++ others) grows more),
+        rw append_assoc (Grows-trans a b c moves (some ++ others) grows more),
         answers_then asked xs ys us bs moves some count are are_more,
         only,
-        subst (λ (l : List ℕ). AppendsPart o p l) (sym (lines_then xs ys us bs count))
-            (then_part o n p (answer_lines xs us) (answer_lines ys bs) lines part),
+        rw (lines_then xs ys us bs count) (then_part o n p _ _ lines part),
       )
 
   pub stops_within : (xs ys : List KnownBag) (a b : Option (List Move)) (o n : Option (List ℕ))
@@ -169,7 +139,7 @@ module _ (asked : Target) where
     grows,
     answers_within asked xs ys us moves are,
     only,
-    subst (λ (l : List ℕ). AppendsPart o n l) (lines_within asked xs ys us moves are) part,
+    rw (lines_within asked xs ys us moves are) part,
   )
 
 -- ---- one more round
@@ -178,12 +148,11 @@ rounds_then : (asked : Target) (vs : List KnownBag) (rounds : List (List Answer)
     (us : List Answer) (m n : List Move) → AreRounds asked vs rounds m
     → AreAnswers (round_after asked rounds) (left_after vs rounds) us n
     → AreRounds asked vs (rounds ++ us ∷ []) (m ++ n)
-rounds_then asked vs [] us m n p q =
-    (n, [], ap (λ (k : List Move). k ++ n) p ∙ sym (append-nil n), q, refl)
+rounds_then asked vs [] us m n p q = (n, [], rw (p, append-nil n), q, refl)
 rounds_then asked vs (bs ∷ rounds) us m n (first, rest, is, one, more) q = (
   first,
   rest ++ n,
-  ap (λ (k : List Move). k ++ n) is ∙ append_assoc first rest n,
+  rw (is, append_assoc first rest n),
   one,
   rounds_then (next_round asked) (left_of vs bs) rounds us rest n more q,
 )
@@ -194,7 +163,7 @@ round_then asked [] us = refl
 round_then asked (bs ∷ rounds) us = round_then (next_round asked) rounds us
 
 last_then : (asked : Target) (rounds : List (List Answer)) (us : List Answer)
-    → round_after asked rounds ≡ last_round asked (rounds ++ us ∷ [])
+    → last_round asked (rounds ++ us ∷ []) ≡ round_after asked rounds
 last_then asked [] us = refl
 last_then asked (bs ∷ []) us = refl
 last_then asked (bs ∷ cs ∷ rounds) us = last_then (next_round asked) (cs ∷ rounds) us
@@ -211,39 +180,30 @@ round_lines_then : (vs : List KnownBag) (rounds : List (List Answer)) (us : List
     ≡ round_lines vs rounds ++ answer_lines (left_after vs rounds) us
 round_lines_then vs [] us = append-nil (answer_lines vs us)
 round_lines_then vs (bs ∷ rounds) us =
-    ap (λ (l : List ℕ). answer_lines vs bs ++ l) (round_lines_then (left_of vs bs) rounds us)
-    ∙ sym (append_assoc (answer_lines vs bs) (round_lines (left_of vs bs) rounds)
-    (answer_lines (left_after (left_of vs bs) rounds) us))
+    rw (round_lines_then (left_of vs bs) rounds us, append_assoc)
 
-pub same_after_then : (vs : List KnownBag) (rounds : List (List Answer)) (us : List Answer)
+same_after_then : (vs : List KnownBag) (rounds : List (List Answer)) (us : List Answer)
     → same_after vs (rounds ++ us ∷ [])
     ≡ same_after vs rounds + same_in (left_after vs rounds) us
 same_after_then vs [] us = omega arith
 same_after_then vs (bs ∷ rounds) us = omega (arith, same_after_then (left_of vs bs) rounds us)
 
-pub left_after_then : (vs : List KnownBag) (rounds : List (List Answer)) (us : List Answer)
+left_after_then : (vs : List KnownBag) (rounds : List (List Answer)) (us : List Answer)
     → left_after vs (rounds ++ us ∷ []) ≡ left_of (left_after vs rounds) us
 left_after_then vs [] us = refl
 left_after_then vs (bs ∷ rounds) us = left_after_then (left_of vs bs) rounds us
 
-pub same_after_bound : (vs : List KnownBag) (rounds : List (List Answer))
+same_after_bound : (vs : List KnownBag) (rounds : List (List Answer))
     → same_after vs rounds + length (left_after vs rounds) ≤ length vs
 same_after_bound vs [] = omega arith
 same_after_bound vs (bs ∷ rounds) =
     omega (arith, same_bound vs bs, same_after_bound (left_of vs bs) rounds)
 
--- something is left for another round
-some_left : {L : Type 0} (rounds : List (List Answer)) → (length rounds ≡ 0) ⊎ L
-    → (rounds ≡ []) ⊎ L
-some_left rounds (inl none) = inl (no_length rounds none)
-some_left rounds (inr some) = inr some
-
 module _ (asked : Target) (vs : List KnownBag) where
-  pub no_rounds : (a : Option (List Move)) (o : Option (List ℕ))
-      → GoesOnRounds asked vs a a o o []
+  no_rounds : (a : Option (List Move)) (o : Option (List ℕ)) → GoesOnRounds asked vs a a o o []
   no_rounds a o = ([], Grows-none a, refl, tt, Appends-nil o)
 
-  pub one_more_round : (a b c : Option (List Move)) (o n p : Option (List ℕ))
+  one_more_round : (a b c : Option (List Move)) (o n p : Option (List ℕ))
       (rounds : List (List Answer)) (us : List Answer) → GoesOnRounds asked vs a b o n rounds
       → GoesOn (round_after asked rounds) (left_after vs rounds) b c n p us
       → GoesOnRounds asked vs a c o p (rounds ++ us ∷ [])
@@ -253,13 +213,11 @@ module _ (asked : Target) (vs : List KnownBag) where
         Grows-trans a b c moves others grows more,
         rounds_then asked vs rounds us moves others are are_more,
         whole_then vs rounds us whole count,
-        subst (Appends o p) (sym (round_lines_then vs rounds us))
-            (Appends-trans o n p (round_lines vs rounds) (answer_lines (left_after vs rounds) us)
-            lines lines_more),
+        rw (round_lines_then vs rounds us) (Appends-trans o n p _ _ lines lines_more),
       )
 
   -- the time isn't over between rounds, and each of them but the last leaves some
-  pub stops_in_round : (s : ℕ) (t u : Option (List Beat)) (a b c : Option (List Move))
+  stops_in_round : (s : ℕ) (t u : Option (List Beat)) (a b c : Option (List Move))
       (o n p : Option (List ℕ)) (rounds : List (List Answer)) (fault : AskFault)
       → GoesOnRounds asked vs a b o n rounds
       → StopsIn (round_after asked rounds) (left_after vs rounds) b c n p fault
@@ -270,15 +228,12 @@ module _ (asked : Target) (vs : List KnownBag) where
         rounds ++ us ∷ [],
         moves ++ some,
         others,
-        subst (Grows a c) (sym (append_assoc moves some others))
-            (Grows-trans a b c moves (some ++ others) grows more),
+        rw append_assoc (Grows-trans a b c moves (some ++ others) grows more),
         rounds_then asked vs rounds us moves some are are_more,
-        subst (λ (t : Target). OnlyAsked t fault others) (last_then asked rounds us) only,
-        subst (λ (l : List ℕ). AppendsPart o p l) (sym (round_lines_then vs rounds us))
-            (then_part o n p (round_lines vs rounds) (answer_lines (left_after vs rounds) us) lines
-            part),
+        rw (last_then asked rounds us) only,
+        rw (round_lines_then vs rounds us) (then_part o n p _ _ lines part),
         stops_in s vs (rounds ++ us ∷ []) t u (length rounds) (length-append rounds (us ∷ []))
-            (leave_then vs rounds us leave (some_left rounds next)) paused,
+            (leave_then vs rounds us leave next) paused,
       )
 
 -- ---- the rounds so far
@@ -297,14 +252,6 @@ module _ (asked : Target) (old : List KnownBag) (a : Option (List Move)) (o : Op
   pub at_first_round : (at : Target) → at ≡ asked → RoundsSoFar asked at old old a a o o 0 0
   at_first_round at here = ([], refl, here, no_rounds asked (open_of old) a o, refl, refl, tt)
 
-  -- what is left by the rounds is what isn't known
-  still_left : (now : List KnownBag) (count : ℕ) (rounds : List (List Answer))
-      → length rounds ≡ count → open_of now ≡ left_after (open_of old) rounds
-      → (count ≡ 0) ⊎ (open_of now ≢ [])
-      → (length rounds ≡ 0) ⊎ (left_after (open_of old) rounds ≢ [])
-  still_left now count rounds so_many kept (inl none) = inl (so_many ∙ none)
-  still_left now count rounds so_many kept (inr some) = inr (λ none. some (kept ∙ none))
-
   pub then_round : (at : Target) (now next : List KnownBag) (b c : Option (List Move))
       (n p : Option (List ℕ)) (same count more : ℕ)
       → RoundsSoFar asked at old now a b o n same count
@@ -313,19 +260,13 @@ module _ (asked : Target) (old : List KnownBag) (a : Option (List Move)) (o : Op
   then_round at now next b c n p same count more
       (rounds, so_many, here, gone, kept, is, leave) some (answers, goes, left, counted) = (
         rounds ++ answers ∷ [],
-        length-append rounds (answers ∷ []) ∙ ap (λ (k : ℕ). k + 1) so_many,
-        ap next_round here ∙ sym (round_then asked rounds answers),
+        rw (length-append rounds (answers ∷ []), so_many),
+        rw (round_then asked rounds answers, here),
         one_more_round asked (open_of old) a b c o n p rounds answers gone
-            (subst (λ (t : Target). GoesOn t (left_after (open_of old) rounds) b c n p answers) here
-            (subst (λ (vs : List KnownBag). GoesOn at vs b c n p answers) kept goes)),
-        left ∙ (ap (λ (vs : List KnownBag). left_of vs answers) kept
-            ∙ sym (left_after_then (open_of old) rounds answers)),
-        ap (λ (k : ℕ). same + k)
-            (counted ∙ ap (λ (vs : List KnownBag). same_in vs answers) kept)
-            ∙ (ap (λ (k : ℕ). k + same_in (left_after (open_of old) rounds) answers) is
-            ∙ sym (same_after_then (open_of old) rounds answers)),
-        leave_then (open_of old) rounds answers leave
-            (some_left rounds (still_left now count rounds so_many kept some)),
+            (rw (here, kept) at goes),
+        cc (left_after_then (open_of old) rounds answers),
+        cc (same_after_then (open_of old) rounds answers),
+        leave_then (open_of old) rounds answers leave (rw (← so_many, kept) at some),
       )
 
   pub stops_at_round : (s : ℕ) (t u : Option (List Beat)) (at : Target)
@@ -336,11 +277,7 @@ module _ (asked : Target) (old : List KnownBag) (a : Option (List Move)) (o : Op
   stops_at_round s t u at now next b c n p same count fault
       (rounds, so_many, here, gone, kept, is, leave) awaited stops =
       stops_in_round asked (open_of old) s t u a b c o n p rounds fault gone
-      (subst (λ (t : Target). StopsIn t (left_after (open_of old) rounds) b c n p fault) here
-      (subst (λ (vs : List KnownBag). StopsIn at vs b c n p fault) kept stops))
-      leave
-      (subst (λ (k : ℕ). IsAwaited s (left_after (open_of old) rounds) k t u) (sym so_many)
-      (subst (λ (vs : List KnownBag). IsAwaited s vs count t u) kept awaited))
+      (rw (here, kept) at stops) leave (rw (← so_many, kept) at awaited)
 
   -- no more are the same than there are
   pub same_at_most : (at : Target) (now : List KnownBag) (b : Option (List Move))
@@ -379,13 +316,3 @@ module _ (asked : Target) (old : List KnownBag) (a : Option (List Move)) (o : Op
         is,
         most_of s (open_of old) rounds t u count so_many most leave paused,
       )
-
-  -- why it was asked in no more rounds
-  pub ends_rounds : (s : ℕ) (t u : Option (List Beat)) (now : List KnownBag)
-      (b : Option (List Move)) (n : Option (List ℕ)) (result : Result ℕ AskFault)
-      (fault : AskFault) → IsErrAnd result (λ e. e ≡ fault)
-      → StopsInRounds s asked (open_of old) t u a b o n fault
-      → AreAsked s asked old now t u a b o n result
-  ends_rounds s t u now b n (Ok same) fault is stops = absurd is
-  ends_rounds s t u now b n (Err e) fault is stops =
-      subst (λ (f : AskFault). StopsInRounds s asked (open_of old) t u a b o n f) (sym is) stops

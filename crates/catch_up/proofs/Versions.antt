@@ -1,12 +1,11 @@
 -- A round: versions one after another, of which those that aren't known are asked for.
 use Rattle.std.proofs.Common.{◌≡◌, ℕ, ◌+◌, ◌≤◌, ◌<◌, Bool, true, false, not, List, [], ◌∷◌, ◌++◌}
 use Rattle.std.proofs.Common.{length, take, drop, get_or, Option, Some, None, Result, Ok, Err, refl}
-use Rattle.std.proofs.Common.{sym, ap, subst, ◌∙◌, add-zero, arith, cond}
+use Rattle.std.proofs.Common.{sym, ap, ◌∙◌, add-zero, arith, cond}
 use Rattle.std.proofs.lemmas.List.{take_more, take_more_set, take-append-drop, take_all, drop-drop}
 use Rattle.std.proofs.lemmas.List.{drop-set-lt, get_or-drop, length-take}
 use Rattle.std.proofs.lemmas.List.Elements.{filter-append}
 use Rattle.std.proofs.Math.ListN.{set}
-use Rattle.std.specs.Prelude.{IsErrAnd}
 use Rattle.known_bags.specs.declared.known_bag.KnownBag.{KnownBag}
 use Rattle.udp_site.specs.Traffic.{Move}
 use Rattle.catch_up.specs.declared.said_answers.AskFault.{AskFault}
@@ -25,7 +24,7 @@ open_both xs ys = filter-append (λ v. not v.is_found) xs ys
 one_open : (v : KnownBag) (found : Bool) → v.is_found ≡ found
     → open_of (v ∷ []) ≡ cond (not found) (v ∷ []) []
 unfolding open_of
-one_open v found is = ap (λ (b : Bool). cond (not b) (v ∷ []) []) is
+one_open v found is = rw is
 
 open_after : (v : KnownBag) (answer : Answer) → v.is_found ≡ false
     → open_of (version_after v answer ∷ []) ≡ left_of (v ∷ []) (answer ∷ [])
@@ -39,13 +38,7 @@ module _ (asked : Target) (v : KnownBag) where
   pub known_before : (a : Option (List Move)) (o : Option (List ℕ)) → v.is_found ≡ true
       → IsRound asked (v ∷ []) (v ∷ []) a a o o (Ok 0)
   known_before a o found =
-      let none : open_of (v ∷ []) ≡ [] = one_open v true found in (
-        [],
-        subst (λ (vs : List KnownBag). GoesOn asked vs a a o o []) (sym none)
-            (goes_on_none asked a o),
-        refl,
-        refl,
-      )
+      rw (one_open v true found) ([], goes_on_none asked a o, refl, refl)
 
   -- it isn't known, and it is asked for
   pub not_known : (next : KnownBag) (a b : Option (List Move)) (o n : Option (List ℕ))
@@ -53,28 +46,10 @@ module _ (asked : Target) (v : KnownBag) where
       → IsAskedOnce asked v next a b o n result
       → IsRound asked (v ∷ []) (next ∷ []) a b o n result
   not_known next a b o n (Ok same) found (answer, goes, next_is, same_is) =
-      let one : open_of (v ∷ []) ≡ v ∷ [] = one_open v false found in (
-        answer ∷ [],
-        subst (λ (vs : List KnownBag). GoesOn asked vs a b o n (answer ∷ [])) (sym one) goes,
-        ap (λ (w : KnownBag). open_of (w ∷ [])) next_is
-            ∙ (open_after v answer found
-            ∙ ap (λ (vs : List KnownBag). left_of vs (answer ∷ [])) (sym one)),
-        same_is
-            ∙ (sym (add-zero _)
-            ∙ ap (λ (vs : List KnownBag). same_in vs (answer ∷ [])) (sym one)),
-      )
-  not_known next a b o n (Err fault) found stops =
-      subst (λ (vs : List KnownBag). StopsIn asked vs a b o n fault)
-      (sym (one_open v false found)) stops
-
--- why a round wasn't gone on with
-pub ends_round : (asked : Target) (vs next : List KnownBag) (a b : Option (List Move))
-    (o n : Option (List ℕ)) (result : Result ℕ AskFault) (fault : AskFault)
-    → IsErrAnd result (λ e. e ≡ fault) → StopsIn asked (open_of vs) a b o n fault
-    → IsRound asked vs next a b o n result
-ends_round asked vs next a b o n (Ok same) fault is stops = absurd is
-ends_round asked vs next a b o n (Err e) fault is stops =
-    subst (λ (f : AskFault). StopsIn asked (open_of vs) a b o n f) (sym is) stops
+      let left : open_of (next ∷ []) ≡ left_of (v ∷ []) (answer ∷ []) =
+      rw next_is (open_after v answer found) in
+      rw (one_open v false found) (answer ∷ [], goes, left, same_is ∙ sym (add-zero _))
+  not_known next a b o n (Err fault) found stops = rw (one_open v false found) stops
 
 -- ---- the first of a list
 
@@ -96,25 +71,16 @@ drop_next xs ys place are =
 same_at : (xs ys : List KnownBag) (place : ℕ) (d : KnownBag) → drop place xs ≡ drop place ys
     → get_or xs place d ≡ get_or ys place d
 same_at xs ys place d are =
-    ap (λ (k : ℕ). get_or xs k d) (omega arith)
-    ∙ (sym (get_or-drop place xs 0 d)
-    ∙ (ap (λ (l : List KnownBag). get_or l 0 d) are
-    ∙ (get_or-drop place ys 0 d ∙ ap (λ (k : ℕ). get_or ys k d) (omega arith))))
+    let place_is : place + 0 ≡ place = omega arith in
+    cc (get_or-drop place xs 0 d, get_or-drop place ys 0 d)
 
-none_open : [] ≡ open_of []
+none_open : open_of [] ≡ []
 unfolding open_of
 none_open = refl
 
 module _ (asked : Target) (old : List KnownBag) (a : Option (List Move)) (o : Option (List ℕ)) where
   pub at_first : SoFar asked old old 0 a a o o 0
-  at_first = (
-    [],
-    subst (λ (vs : List KnownBag). GoesOn asked vs a a o o []) none_open
-        (goes_on_none asked a o),
-    refl,
-    refl,
-    refl,
-  )
+  at_first = rw none_open ([], goes_on_none asked a o, refl, refl, refl)
 
   -- one version more: v, which is next from then on
   next_version : (now then : List KnownBag) (place : ℕ) (v next : KnownBag)
@@ -127,24 +93,17 @@ module _ (asked : Target) (old : List KnownBag) (a : Option (List Move)) (o : Op
       → SoFar asked old then (place + 1) a c o p (same + one)
   next_version now then place v next b c n p same one is_old is_new dropped
       (more, goes, left, counted) (answers, gone, kept, drops, is) =
-      let both : open_of (take (place + 1) old) ≡ open_of (take place old) ++ open_of (v ∷ []) =
-      ap open_of is_old ∙ open_both (take place old) (v ∷ []) in
-      let count : length answers ≡ length (open_of (take place old)) = gone.3 in (
+      let before = open_of (take place old) in
+      let both = open_both (take place old) (v ∷ []) in
+      rw (is_old, both) (
         answers ++ more,
-        subst (λ (vs : List KnownBag). GoesOn asked vs a c o p (answers ++ more)) (sym both)
-            (goes_on asked (open_of (take place old)) (open_of (v ∷ [])) a b c o n p answers more
-            gone goes),
-        ap open_of is_new
-            ∙ (open_both (take place now) (next ∷ [])
-            ∙ (ap (λ (vs : List KnownBag). vs ++ open_of (next ∷ [])) kept
-            ∙ (ap (λ (vs : List KnownBag). left_of (open_of (take place old)) answers ++ vs) left
-            ∙ (sym (left_then (open_of (take place old)) (open_of (v ∷ [])) answers more count)
-            ∙ ap (λ (vs : List KnownBag). left_of vs (answers ++ more)) (sym both))))),
+        goes_on asked before (open_of (v ∷ [])) a b c o n p answers more gone goes,
+        cc (
+          open_both (take place now) (next ∷ []),
+          left_then before (open_of (v ∷ [])) answers more gone.3,
+        ),
         dropped,
-        ap (λ (k : ℕ). same + k) counted
-            ∙ (ap (λ (k : ℕ). k + same_in (open_of (v ∷ [])) more) is
-            ∙ (sym (same_then (open_of (take place old)) (open_of (v ∷ [])) answers more count)
-            ∙ ap (λ (vs : List KnownBag). same_in vs (answers ++ more)) (sym both))),
+        cc (same_then before (open_of (v ∷ [])) answers more gone.3),
       )
 
   -- the version at a place
@@ -152,8 +111,7 @@ module _ (asked : Target) (old : List KnownBag) (a : Option (List Move)) (o : Op
       → drop place now ≡ drop place old
       → take (place + 1) old ≡ take place old ++ get_or now place d ∷ []
   at_place now place d within drops =
-      take_more old place d within
-      ∙ ap (λ (w : KnownBag). take place old ++ w ∷ []) (sym (same_at now old place d drops))
+      cc (take_more old place d within, same_at now old place d drops)
 
   pub one_more : (now : List KnownBag) (place : ℕ) (d next : KnownBag) (b c : Option (List Move))
       (n p : Option (List ℕ)) (same one : ℕ) → place < length old → place < length now
@@ -173,20 +131,19 @@ module _ (asked : Target) (old : List KnownBag) (a : Option (List Move)) (o : Op
       → IsRound asked (get_or now place d ∷ []) (next ∷ []) b c n p (Err fault)
       → SoFar asked old now place a b o n same → StopsIn asked (open_of old) a c o p fault
   stopped now place d next b c n p same fault within stops (answers, gone, kept, drops, is) =
-      let v = get_or now place d in
-      let first : take (place + 1) old ≡ take place old ++ v ∷ [] =
-      at_place now place d within drops in
-      let parts : open_of old
-      ≡ (open_of (take place old) ++ open_of (v ∷ [])) ++ open_of (drop (place + 1) old) =
-      ap open_of (sym (take-append-drop (place + 1) old))
-      ∙ (open_both (take (place + 1) old) (drop (place + 1) old)
-      ∙ ap (λ (vs : List KnownBag). vs ++ open_of (drop (place + 1) old))
-      (ap open_of first ∙ open_both (take place old) (v ∷ []))) in
-      subst (λ (vs : List KnownBag). StopsIn asked vs a c o p fault) (sym parts)
-      (stops_within asked (open_of (take place old) ++ open_of (v ∷ []))
-      (open_of (drop (place + 1) old)) a c o p fault
-      (stops_then asked (open_of (take place old)) (open_of (v ∷ [])) a b c o n p answers fault gone
-      stops))
+      let this = get_or now place d ∷ [] in
+      let first = take place old in
+      let rest = drop (place + 1) old in
+      let parts : open_of old ≡ (open_of first ++ open_of this) ++ open_of rest =
+      cc (
+        take-append-drop (place + 1) old,
+        open_both (take (place + 1) old) rest,
+        at_place now place d within drops,
+        open_both first this,
+      ) in
+      rw parts
+      (stops_within asked (open_of first ++ open_of this) (open_of rest) a c o p fault
+      (stops_then asked (open_of first) (open_of this) a b c o n p answers fault gone stops))
 
   -- all are done
   pub at_end : (now : List KnownBag) (place : ℕ) (b : Option (List Move)) (n : Option (List ℕ))
@@ -194,13 +151,8 @@ module _ (asked : Target) (old : List KnownBag) (a : Option (List Move)) (o : Op
       → SoFar asked old now place a b o n same → IsRound asked old now a b o n (Ok same)
   at_end now place b n same all all_now (answers, gone, kept, drops, is) =
       let is_old : take place old ≡ old = take_all place old all in
-      let is_now : take place now ≡ now = take_all place now all_now in (
-        answers,
-        subst (λ (vs : List KnownBag). GoesOn asked (open_of vs) a b o n answers) is_old gone,
-        ap open_of (sym is_now) ∙ (kept
-            ∙ ap (λ (vs : List KnownBag). left_of (open_of vs) answers) is_old),
-        is ∙ ap (λ (vs : List KnownBag). same_in (open_of vs) answers) is_old,
-      )
+      let is_now : take place now ≡ now = take_all place now all_now in
+      (answers, rw is_old at gone, cc, cc)
 
   -- no more are the same than there are
   pub same_so_far : (now : List KnownBag) (place : ℕ) (b : Option (List Move))

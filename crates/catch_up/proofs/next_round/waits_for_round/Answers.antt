@@ -3,11 +3,9 @@ use Rattle.catch_up.proofs.next_round.waits_for_round.Goals as goal
 
 pub returns-then-is_over : goal.returns-then-is_over
 returns-then-is_over g c =
-    is_late c.args.seconds c.args.pauses (g.T.Timer.beats c.args.timer.now)
-    (g.T.Timer.beats c.is_over.new.timer) c.is_over.result c.is_over.ensures c.if-is_over.true
+    is_late c.args.seconds c.args.pauses _ _ _ c.is_over.ensures c.if-is_over.true
 
 pub returns : goal.returns
 returns g c =
-    goes_on c.args.seconds c.args.pauses (g.T.Timer.beats c.args.timer.now)
-    (g.T.Timer.beats c.is_over.new.timer) c.is_over.result c.is_over.ensures c.if-is_over.false
-    (g.T.Timer.beats c.pause.new.self) c.pause_after.result c.pause_after.ensures c.pause.ensures
+    goes_on c.args.seconds c.args.pauses _ _ _ _ _ c.is_over.ensures c.if-is_over.false
+    c.pause_after.ensures c.pause.ensures
