@@ -10,14 +10,15 @@ use Rattle.std.specs.Io.KnownBytes.{Appends}
 use Rattle.known_bags.specs.declared.known_bag.KnownBag.{KnownBag}
 use Rattle.outcomes.specs.declared.fault.ProgramFault.{ProgramFault}
 use Rattle.outcomes.specs.declared.fault.ProgramFault.TheVariants as faults
-use Rattle.outcomes.specs.Outcomes.{no_memory}
+use Rattle.outcomes.specs.Outcomes.{Outcome, no_memory}
 use Rattle.udp_site.specs.Traffic.{Move}
+use Rattle.site_client.specs.Answers.{IsWritten}
 use Rattle.catch_up.specs.declared.said_answers.AskFault.{AskFault}
 use Rattle.catch_up.specs.declared.said_answers.AskFault.TheVariants.{Memory, Output}
 use Rattle.catch_up.specs.declared.rounds.Target.{Target}
 use Rattle.catch_up.specs.Lines.{open_line, count_line}
 use Rattle.catch_up.specs.Rounds.{open_of, last_round}
-use Rattle.catch_up.specs.Reports.{open_lines, status_of, IsCaughtUp}
+use Rattle.catch_up.specs.Reports.{open_lines, status_of, report, cut_short, IsCaughtUp}
 use Rattle.catch_up.specs.Times.{Beat}
 use Rattle.catch_up.proofs.Paces.{not_to_the_end, to_the_end}
 use Rattle.catch_up.specs.inner.Progress.{AppendsPart, StopsInRounds, AreAsked, AreReported}
@@ -104,7 +105,8 @@ module _ (s : ℕ) (asked : Target) (old : List KnownBag) (t u : Option (List Be
 
     pub stops_in_open : (p : Option (List ℕ)) (fault : AskFault)
         → AreAsked s asked old now t u a b o n (Ok same)
-        → AppendsPart n p (open_lines (open_of now)) → AreReported s asked old t u a b o p (Err fault)
+        → AppendsPart n p (open_lines (open_of now))
+        → AreReported s asked old t u a b o p (Err fault)
     stops_in_open p fault done part = stops_after p fault done (part_of_both n p _ _ part)
 
     pub all_written : (p q : Option (List ℕ)) (result : Result ℕ AskFault)
@@ -131,6 +133,17 @@ module _ (s : ℕ) (asked : Target) (old : List KnownBag) (t u : Option (List Be
 
 -- ---- what the command ends with
 
+-- the line `memory` after a prefix of a report
+pub then_memory : (outcome : Outcome) (o n p : Option (List ℕ)) (count : ℕ)
+    (result : Result ℕ ProgramFault) → Appends o n (take count outcome.text)
+    → IfOk result (λ given. (given ≡ 1) × Appends n p no_memory.text)
+    → OnErr result ((result ≡ Err faults.Output) × AppendsPart n p no_memory.text)
+    → IsWritten o p result (cut_short count outcome)
+then_memory outcome o n p count (Ok status) part ok err =
+    (ok.0, Appends-trans o n p _ no_memory.text part ok.1)
+then_memory outcome o n p count (Err fault) part ok err =
+    (cc (err.0), then_part o n p _ no_memory.text part err.1)
+
 module _ (s : ℕ) (asked : Target) (vs : List KnownBag) (t u : Option (List Beat))
     (a b : Option (List Move)) (o n : Option (List ℕ)) where
   pub ended : (status : ℕ) → AreReported s asked vs t u a b o n (Ok status)
@@ -154,14 +167,8 @@ module _ (s : ℕ) (asked : Target) (vs : List KnownBag) (t u : Option (List Bea
   pub memory_ran_out : (p : Option (List ℕ)) (result : Result ℕ ProgramFault)
       → AreReported s asked vs t u a b o n (Err Memory)
       → IfOk result (λ given. (given ≡ 1) × Appends n p no_memory.text)
-      → OnErr result ((result ≡ Err faults.Output)
-      × ((k : ℕ) × Appends n p (take k no_memory.text)))
+      → OnErr result ((result ≡ Err faults.Output) × AppendsPart n p no_memory.text)
       → IsCaughtUp s asked vs t u a b o p result
-  memory_ran_out p (Ok status) (rounds, moves, others, grows, are, only, (count, part), paced) ok
-      err =
-      let whole = Appends-trans o n p _ no_memory.text part ok.1 in
-      inr (rounds, moves, others, grows, are, only, paced, (count, (ok.0, whole)))
-  memory_ran_out p (Err fault) (rounds, moves, others, grows, are, only, (count, part), paced) ok
-      err =
-      let both = then_part o n p _ no_memory.text part err.1 in
-      inr (rounds, moves, others, grows, are, only, paced, (count, (cc (err.0), both)))
+  memory_ran_out p result (rounds, moves, others, grows, are, only, (count, part), paced) ok err =
+      let written = then_memory (report vs rounds) o n p count result part ok err in
+      inr (rounds, moves, others, grows, are, only, paced, (count, written))

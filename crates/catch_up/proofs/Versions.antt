@@ -63,12 +63,12 @@ SoFar asked old now place before after written next same =
     × (drop place now ≡ drop place old)
     × (same ≡ same_in (open_of (take place old)) answers)
 
-drop_next : (xs ys : List KnownBag) (place : ℕ) → drop place xs ≡ drop place ys
+pub drop_next : {X : Type 0} (xs ys : List X) (place : ℕ) → drop place xs ≡ drop place ys
     → drop (place + 1) xs ≡ drop (place + 1) ys
 drop_next xs ys place are =
     sym (drop-drop 1 place xs) ∙ (ap (drop 1) are ∙ drop-drop 1 place ys)
 
-same_at : (xs ys : List KnownBag) (place : ℕ) (d : KnownBag) → drop place xs ≡ drop place ys
+pub same_at : {X : Type 0} (xs ys : List X) (place : ℕ) (d : X) → drop place xs ≡ drop place ys
     → get_or xs place d ≡ get_or ys place d
 same_at xs ys place d are =
     let place_is : place + 0 ≡ place = omega arith in
