@@ -1,18 +1,14 @@
 -- A round: deposits one after another; and rounds, one after another.
 use Rattle.std.proofs.Common.{◌≡◌, ℕ, zero, suc, ◌+◌, ◌-◌, ◌≤◌, ◌<◌, Bool, true, false, List, []}
-use Rattle.std.proofs.Common.{◌∷◌, ◌++◌}
-use Rattle.std.proofs.Common.{length, take, drop, get_or, map, Option, Some, Result, Ok, Err}
+use Rattle.std.proofs.Common.{◌∷◌, ◌++◌, length, take, drop, get_or, Option, Some, Ok, Err}
 use Rattle.std.proofs.Common.{refl, sym, ap, subst, ◌∙◌, arith, append_assoc, append-nil, inl, inr}
-use Rattle.std.proofs.lemmas.List.{take_more, take_more_set, take_all, drop-drop, drop-set-lt}
-use Rattle.std.proofs.lemmas.List.{get_or-drop, map-append, length-map, take_at, take-append-drop}
+use Rattle.std.proofs.lemmas.List.{take_more, take_more_set, take_all, drop-set-lt, map-append}
+use Rattle.std.proofs.lemmas.List.{length-map, take_at, take-append-drop}
 use Rattle.std.proofs.Math.ListN.{set}
-use Rattle.std.specs.Prelude.{◌≢◌, IsErrAnd, Vec}
-use Rattle.std.specs.Global.{Global}
+use Rattle.std.specs.Prelude.{◌≢◌}
 use Rattle.std.specs.declared.alloc.AllocError.{AllocError}
 use Rattle.site_client.specs.declared.reply.ClientReply.{ClientReply}
-use Rattle.site_client.specs.Replies.{datagram_to, first_reply}
-use Rattle.site_client.specs.Exchanges.{Asks, HasAsked, wanted_about, IsAskedAbout}
-use Rattle.site_client.specs.Recoveries.{recovery_of}
+use Rattle.site_client.specs.Exchanges.{IsAskedAbout}
 use Rattle.udp_site.specs.Traffic.{Move, Grows}
 use Rattle.udp_site.proofs.Growth.{Grows-trans, Grows-none}
 use Rattle.catch_up.specs.declared.rounds.Target.{Target}
@@ -20,6 +16,7 @@ use Rattle.catch_up.specs.Rounds.{in_round, question}
 use Rattle.catch_up.specs.Times.{Beat, Read, Paused, Beats, WaitsForRound, most_rounds}
 use Rattle.catch_up.specs.Times.{pause_after}
 use Rattle.catch_up.proofs.Paces.{Beats-none, Beats-trans}
+use Rattle.catch_up.proofs.Versions.{drop_next, same_at}
 use Rattle.deposit_list.specs.declared.aim.Aim.{Aim}
 use Rattle.deposit_list.specs.declared.aim.Aim.TheVariants as aims
 use Rattle.deposit_list.specs.declared.deposit.Deposit.{Deposit}
@@ -28,34 +25,24 @@ use Rattle.deposit_list.specs.declared.standing.Standing.{Standing}
 use Rattle.deposit_list.specs.declared.standing.Standing.TheVariants.{Unsent}
 use Rattle.deposit_list.specs.Standings.{is_settled, after}
 use Rattle.deposit_list.specs.Windows.{IsStep, IsRound, AreFresh, are_settled, IsAwaited}
-use Rattle.deposit_list.specs.Windows.{AreRounds, AreAllRounds, deadline_by, IsWindow}
+use Rattle.deposit_list.specs.Windows.{AreRounds, deadline_by, IsWindow}
 use Rattle.deposit_list.specs.Windows.{path_to_send, AsksAbout, IsCutRound, AreCutRounds}
-use Rattle.deposit_list.specs.Windows.{IsCutAsked}
 use Rattle.deposit_list.specs.inner.Progress.{IsStepped, IsAsked, IsNext, AreAsked, IsCut}
-use Rattle.deposit_list.specs.inner.Progress.{IsWindowAsked}
 
 -- ---- one after another
 
 round_then : (asked : Target) (xs ys : List Entry) (m : List Move) (x y : Entry) (n : List Move)
     → IsRound asked xs ys m → IsStep asked x y n
     → IsRound asked (xs ++ x ∷ []) (ys ++ y ∷ []) (m ++ n)
-round_then asked [] ys m x y n (none, idle) step = (
-  y,
-  [],
-  n,
-  [],
-  ap (λ (l : List Entry). l ++ y ∷ []) none,
-  ap (λ (l : List Move). l ++ n) idle ∙ sym (append-nil n),
-  step,
-  (refl, refl),
-)
+round_then asked [] ys m x y n (none, idle) step =
+    (y, [], n, [], rw none, rw (idle, append-nil n), step, (refl, refl))
 round_then asked (e ∷ es) ys m x y n (now, others, first, rest, is, moves, one, more) step = (
   now,
   others ++ y ∷ [],
   first,
   rest ++ n,
-  ap (λ (l : List Entry). l ++ y ∷ []) is,
-  ap (λ (l : List Move). l ++ n) moves ∙ append_assoc first rest n,
+  rw is,
+  rw (moves, append_assoc first rest n),
   one,
   round_then asked es others rest x y n more step,
 )
@@ -64,17 +51,10 @@ round_then asked (e ∷ es) ys m x y n (now, others, first, rest, is, moves, one
 round_cut : (asked : Target) (xs ys : List Entry) (m : List Move) (x : Entry) (zs : List Entry)
     (n : List Move) → IsRound asked xs ys m → AsksAbout asked x n
     → IsCutRound asked (xs ++ x ∷ zs) (m ++ n)
-round_cut asked [] ys m x zs n (none, idle) asks =
-    inl (subst (λ (l : List Move). AsksAbout asked x (l ++ n)) (sym idle) asks)
+round_cut asked [] ys m x zs n (none, idle) asks = inl (rw idle asks)
 round_cut asked (e ∷ es) ys m x zs n (now, others, first, rest, is, moves, one, more) asks =
-    inr (
-      now,
-      first,
-      rest ++ n,
-      ap (λ (l : List Move). l ++ n) moves ∙ append_assoc first rest n,
-      one,
-      round_cut asked es others rest x zs n more asks,
-    )
+    let cut = round_cut asked es others rest x zs n more asks in
+    inr (now, first, rest ++ n, rw (moves, append_assoc first rest n), one, cut)
 
 -- what was done for those before a place
 abbrev pub SoFar : Target → (old now : List Entry) → (place : ℕ)
@@ -83,19 +63,6 @@ SoFar asked old now place before after =
     (moves : List Move) × Grows before after moves
     × IsRound asked (take place old) (take place now) moves
     × (drop place now ≡ drop place old)
-
-drop_next : (xs ys : List Entry) (place : ℕ) → drop place xs ≡ drop place ys
-    → drop (place + 1) xs ≡ drop (place + 1) ys
-drop_next xs ys place are =
-    sym (drop-drop 1 place xs) ∙ (ap (drop 1) are ∙ drop-drop 1 place ys)
-
-same_at : (xs ys : List Entry) (place : ℕ) (d : Entry) → drop place xs ≡ drop place ys
-    → get_or xs place d ≡ get_or ys place d
-same_at xs ys place d are =
-    ap (λ (k : ℕ). get_or xs k d) (omega arith)
-    ∙ (sym (get_or-drop place xs 0 d)
-    ∙ (ap (λ (l : List Entry). get_or l 0 d) are
-    ∙ (get_or-drop place ys 0 d ∙ ap (λ (k : ℕ). get_or ys k d) (omega arith))))
 
 module _ (asked : Target) (old : List Entry) (a : Option (List Move)) where
   pub at_first : SoFar asked old old 0 a a
@@ -107,16 +74,11 @@ module _ (asked : Target) (old : List Entry) (a : Option (List Move)) where
       → SoFar asked old (set now place next) (place + 1) a c
   one_more now place d next b c within within_now (more, goes, step) (moves, grows, are, drops) =
       let is_old : take (place + 1) old ≡ take place old ++ get_or now place d ∷ [] =
-      take_more old place d within
-      ∙ ap (λ (e : Entry). take place old ++ e ∷ []) (sym (same_at now old place d drops)) in (
+      cc (take_more old place d within, same_at now old place d drops) in (
         moves ++ more,
         Grows-trans a b c moves more grows goes,
-        subst (λ (l : List Entry). IsRound asked l (take (place + 1) (set now place next))
-            (moves ++ more)) (sym is_old)
-            (subst (λ (l : List Entry). IsRound asked (take place old ++ get_or now place d ∷ []) l
-            (moves ++ more)) (sym (take_more_set now place next within_now))
-            (round_then asked (take place old) (take place now) moves (get_or now place d) next
-            more are step)),
+        rw (is_old, take_more_set now place next within_now)
+            (round_then asked (take place old) (take place now) moves _ next more are step),
         drop-set-lt (place + 1) now place next (omega arith) ∙ drop_next now old place drops,
       )
 
@@ -126,28 +88,26 @@ module _ (asked : Target) (old : List Entry) (a : Option (List Move)) where
       → SoFar asked old now place a b
       → (moves : List Move) × Grows a c moves × IsCutRound asked old moves
   stopped now place d b c within (more, goes, asks) (moves, grows, are, drops) =
-      let x : Entry = get_or now place d in
-      let zs : List Entry = drop (place + 1) old in
-      let parts : (take place old ++ x ∷ []) ++ zs ≡ old =
-      ap (λ (l : List Entry). l ++ zs) (ap (λ (e : Entry). take place old ++ e ∷ [])
-      (same_at now old place d drops) ∙ sym (take_more old place d within))
-      ∙ take-append-drop (place + 1) old in (
+      let first = take place old in
+      let x = get_or now place d in
+      let zs = drop (place + 1) old in
+      let joined : (first ++ x ∷ []) ++ zs ≡ first ++ x ∷ zs = append_assoc first (x ∷ []) zs in
+      let parts : old ≡ first ++ x ∷ zs =
+      cc (
+        joined,
+        take_more old place d within,
+        same_at now old place d drops,
+        take-append-drop (place + 1) old,
+      ) in (
         moves ++ more,
         Grows-trans a b c moves more grows goes,
-        subst (λ (l : List Entry). IsCutRound asked l (moves ++ more))
-            (sym (append_assoc (take place old) (x ∷ []) zs) ∙ parts)
-            (round_cut asked (take place old) (take place now) moves x zs more are asks),
+        rw parts (round_cut asked first (take place now) moves x zs more are asks),
       )
 
   pub at_end : (now : List Entry) (place : ℕ) (b : Option (List Move)) → length old ≤ place
       → length now ≤ place → SoFar asked old now place a b → IsAsked asked old now a b (Ok tt)
-  at_end now place b all all_now (moves, grows, are, drops) = (
-    moves,
-    grows,
-    subst (λ (l : List Entry). IsRound asked old l moves) (take_all place now all_now)
-        (subst (λ (l : List Entry). IsRound asked l (take place now) moves)
-        (take_all place old all) are),
-  )
+  at_end now place b all all_now (moves, grows, are, drops) =
+      (moves, grows, rw (take_all place old all, take_all place now all_now) at are)
 
 -- ---- one deposit
 
@@ -162,57 +122,20 @@ module _ (asked : Target) (old : Entry) (a : Option (List Move)) where
       → standing ≡ after old.standing reply
       → IsStepped asked old (record old { standing = standing }) a b (Ok tt)
   stepped path reply standing b not is (moves, grows, asks, first) stands =
-      let q = question asked old.deposit.now.slot in (
-        moves,
-        grows,
-        inr (
-          not,
-          (
-            subst (λ (p : Option (List ℕ)). HasAsked (asked.target, datagram_to q p) (recovery_of q)
-                moves) is asks,
-            ap (λ (x : Standing). record old { standing = x })
-                (stands
-                ∙ (ap (after old.standing) first
-                ∙ ap (λ (p : Option (List ℕ)). after old.standing (first_reply q (wanted_about p)
-                moves)) is)),
-          ),
-        ),
-      )
+      (moves, grows, inr (not, (rw is at asks, rw (stands, first, is))))
 
   -- memory ran out for its reply
   pub went : (path : Option (List ℕ)) (b : Option (List Move)) (fault : AllocError)
       → path ≡ path_to_send old
       → IsAskedAbout (question asked old.deposit.now.slot) path a b (Err fault)
       → (moves : List Move) × Grows a b moves × AsksAbout asked old moves
-  went path b fault is (moves, grows, asks) =
-      let q = question asked old.deposit.now.slot in (
-        moves,
-        grows,
-        subst (λ (p : Option (List ℕ)). Asks (asked.target, datagram_to q p) (recovery_of q) moves)
-            is asks,
-      )
+  went path b fault is (moves, grows, asks) = (moves, grows, rw is at asks)
 
   -- or before it was sent
   pub nothing_gone : (moves : List Move) × Grows a a moves × AsksAbout asked old moves
   nothing_gone = ([], Grows-none a, tt)
 
 -- ---- where memory ran out
-
-pub round_fails : (asked : Target) (old new : List Entry) (a b : Option (List Move))
-    (result : Result (Unit {0}) AllocError) (fault : AllocError)
-    → IsErrAnd result (λ e. e ≡ fault)
-    → (moves : List Move) × Grows a b moves × IsCutRound asked old moves
-    → IsAsked asked old new a b result
-round_fails asked old new a b (Ok done) fault is goes = absurd is
-round_fails asked old new a b (Err e) fault is goes = goes
-
-pub step_fails : (asked : Target) (old new : Entry) (a b : Option (List Move))
-    (result : Result (Unit {0}) AllocError) (fault : AllocError)
-    → IsErrAnd result (λ e. e ≡ fault)
-    → (moves : List Move) × Grows a b moves × AsksAbout asked old moves
-    → IsStepped asked old new a b result
-step_fails asked old new a b (Ok done) fault is goes = absurd is
-step_fails asked old new a b (Err e) fault is goes = goes
 
 -- rounds were asked, and one more in part
 abbrev pub AreCutBy : (deadline : ℕ) → Target → (entries : List Entry)
@@ -227,20 +150,6 @@ abbrev pub IsCutBy : Aim → Target → List Deposit → (since until : Option (
 IsCutBy aim asked window since until before after =
     (moves : List Move) × (beats : List Beat) × Grows before after moves
     × Beats since until beats × IsCut aim asked window moves beats
-
-pub rounds_fail : (s : ℕ) (asked : Target) (old new : List Entry) (t u : Option (List Beat))
-    (a b : Option (List Move)) (result : Result (Unit {0}) AllocError) (fault : AllocError)
-    → IsErrAnd result (λ e. e ≡ fault) → AreCutBy s asked old t u a b
-    → AreAsked s asked old new t u a b result
-rounds_fail s asked old new t u a b (Ok done) fault is goes = absurd is
-rounds_fail s asked old new t u a b (Err e) fault is goes = goes
-
-pub window_fails : (aim : Aim) (asked : Target) (window : List Deposit) (t u : Option (List Beat))
-    (a b : Option (List Move)) (result : Result (Vec Entry Global) AllocError)
-    (fault : AllocError) → IsErrAnd result (λ e. e ≡ fault) → IsCutBy aim asked window t u a b
-    → IsWindowAsked aim asked window t u a b result
-window_fails aim asked window t u a b (Ok entries) fault is goes = absurd is
-window_fails aim asked window t u a b (Err e) fault is goes = goes
 
 pub none_gone_on : (aim : Aim) (asked : Target) (window : List Deposit) (t : Option (List Beat))
     (a : Option (List Move)) → IsCutBy aim asked window t t a a
@@ -258,15 +167,8 @@ pub one_fresh : (window : List Deposit) (place : ℕ) (d : Deposit) (fresh : Lis
     → AreFresh (take (place + 1) window) (fresh ++ entry ∷ [])
 one_fresh window place d fresh entry within is unsent (deposits, standings) =
     rw (take_more window place d within) (
-      map-append (λ (e : Entry). e.deposit.now) fresh (entry ∷ [])
-          ∙ (ap (λ (l : List Deposit). l ++ entry.deposit.now ∷ []) deposits
-          ∙ ap (λ (x : Deposit). take place window ++ x ∷ []) is),
-      map-append (λ (e : Entry). e.standing) fresh (entry ∷ [])
-          ∙ (ap (λ (l : List Standing). l ++ entry.standing ∷ []) standings
-          ∙ (ap (λ (x : Standing). map (λ (y : Deposit). Unsent) (take place window) ++ x ∷ [])
-          unsent
-          ∙ sym (map-append (λ (y : Deposit). Unsent) (take place window)
-          (get_or window place d ∷ [])))),
+      rw (map-append, deposits, is),
+      rw (map-append (λ (e : Entry). e.standing) fresh (entry ∷ []), standings, unsent, map-append),
     )
 
 fresh_length : (window : List Deposit) (fresh : List Entry) → AreFresh window fresh
@@ -305,9 +207,7 @@ module _ (aim : Aim) (asked : Target) (window : List Deposit) (fresh now : List 
     taken_back : (t u : Option (List Beat)) (a b : Option (List Move)) → length now ≡ length fresh
         → IsDone aim asked window now t u a b
         → IsDone aim asked window (take room (now ++ spare)) t u a b
-    taken_back t u a b same done =
-        subst (λ (es : List Entry). IsDone aim asked window es t u a b)
-        (sym (take_at now spare room (same ∙ full))) done
+    taken_back t u a b same done = rw (take_at now spare room (same ∙ full)) done
 
     -- asked once
     pub asked_once : aim ≡ aims.Registered → (t : Option (List Beat)) (a b : Option (List Move))
@@ -321,8 +221,7 @@ module _ (aim : Aim) (asked : Target) (window : List Deposit) (fresh now : List 
           [],
           grows,
           Beats-none t,
-          subst (λ (x : Aim). IsWindow x asked window now moves []) (sym is)
-              (fresh, are, (round, refl)),
+          rw is (fresh, are, (round, refl)),
           same ∙ fresh_length window fresh are,
         )
 
@@ -333,25 +232,15 @@ module _ (aim : Aim) (asked : Target) (window : List Deposit) (fresh now : List 
         → AreAsked deadline asked fresh now u v a b (Ok tt)
         → IsDone aim asked window (take room (now ++ spare)) t v a b
     asked_in_rounds seconds deadline aim_is t u v a b (time, begun, is)
-        (moves, beats, grows, beaten, (rounds, since, last, some, parts, went, over)) =
+        (moves, beats, grows, beaten, all) =
         let same : length now ≡ length fresh =
-        rounds_length deadline asked rounds fresh now moves since went in
+        rounds_length deadline asked all.0 fresh now moves all.1 all.5 in
         taken_back t v a b same (
           moves,
           Read time ∷ beats,
           grows,
           Beats-trans t u v (Read time ∷ []) beats begun beaten,
-          subst (λ (x : Aim). IsWindow x asked window now moves (Read time ∷ beats)) (sym aim_is) (
-            fresh,
-            are,
-            (
-              time,
-              beats,
-              refl,
-              subst (λ (k : ℕ). AreAllRounds k asked fresh now moves beats) is
-                  (rounds, since, last, some, parts, went, over),
-            ),
-          ),
+          rw aim_is (fresh, are, (time, beats, refl, rw is at all)),
           same ∙ fresh_length window fresh are,
         )
 
@@ -361,17 +250,8 @@ module _ (aim : Aim) (asked : Target) (window : List Deposit) (fresh : List Entr
   pub once_gone_on : aim ≡ aims.Registered → (t : Option (List Beat)) (a b : Option (List Move))
       → (moves : List Move) × Grows a b moves × IsCutRound (in_round asked 0) fresh moves
       → IsCutBy aim asked window t t a b
-  once_gone_on is t a b (moves, grows, cut) = (
-    moves,
-    [],
-    grows,
-    Beats-none t,
-    inr (
-      fresh,
-      are,
-      subst (λ (x : Aim). IsCutAsked x asked fresh moves []) (sym is) (cut, refl),
-    ),
-  )
+  once_gone_on is t a b (moves, grows, cut) =
+      (moves, [], grows, Beats-none t, inr (fresh, are, rw is (cut, refl)))
 
   -- or, after the time was read, in rounds
   pub later_gone_on : (seconds deadline : ℕ) → aim ≡ aims.Known seconds
@@ -384,16 +264,7 @@ module _ (aim : Aim) (asked : Target) (window : List Deposit) (fresh : List Entr
         Read time ∷ beats,
         grows,
         Beats-trans t u v (Read time ∷ []) beats begun beaten,
-        inr (
-          fresh,
-          are,
-          subst (λ (x : Aim). IsCutAsked x asked fresh moves (Read time ∷ beats)) (sym aim_is) (
-            time,
-            beats,
-            refl,
-            subst (λ (k : ℕ). AreCutRounds k asked fresh moves beats) is cut,
-          ),
-        ),
+        inr (fresh, are, rw aim_is (time, beats, refl, rw is at cut)),
       )
 
 -- ---- rounds
@@ -417,13 +288,12 @@ module _ (s : ℕ) (asked : Target) (old : List Entry) (t : Option (List Beat))
       → RoundsSoFar s asked (rounds + 1) old next t v a c
   one_round rounds now next u v b c (wait, waits, awaited) (last, goes, round)
       (moves, beats, grows, beaten, are) =
-      let is : suc rounds ≡ rounds + 1 = omega arith in (
+      let is : rounds + 1 ≡ suc rounds = omega arith in (
         moves ++ last,
         beats ++ wait,
         Grows-trans a b c moves last grows goes,
         Beats-trans t u v beats wait beaten waits,
-        subst (λ (k : ℕ). AreRounds s asked k old next (moves ++ last) (beats ++ wait)) is
-            (now, moves, last, beats, wait, refl, refl, are, awaited, round),
+        rw is (now, moves, last, beats, wait, refl, refl, are, awaited, round),
       )
 
   pub round_stopped : (rounds : ℕ) (now : List Entry) (u v : Option (List Beat))
@@ -453,21 +323,10 @@ module _ (s : ℕ) (asked : Target) (old : List Entry) (t : Option (List Beat))
   pub most : (rounds : ℕ) (now : List Entry) (u : Option (List Beat)) (b : Option (List Move))
       → rounds ≡ most_rounds → RoundsSoFar s asked rounds old now t u a b
       → AreAsked s asked old now t u a b (Ok tt)
-  most rounds now u b is (moves, beats, grows, beaten, are) = (
-    moves,
-    beats,
-    grows,
-    beaten,
-    (
-      rounds,
-      beats,
-      [],
-      omega (arith, is),
-      sym (append-nil beats),
-      are,
-      inr (inr (is, refl)),
-    ),
-  )
+  most rounds now u b is (moves, beats, grows, beaten, are) =
+      let some : 1 ≤ rounds = omega (arith, is) in
+      let none = sym (append-nil beats) in
+      (moves, beats, grows, beaten, (rounds, beats, [], some, none, are, inr (inr (is, refl))))
 
 -- ---- whether there is another
 
@@ -483,11 +342,11 @@ module _ (s rounds : ℕ) (entries : List Entry) where
     pub some_left : (t u : Option (List Beat)) (goes : Bool) → are_settled entries ≡ false
         → WaitsForRound s (rounds - 1) t u goes → IsNext s rounds entries t u goes
     some_left t u true left (passed, beats, isnt) =
-        let is : rounds ≡ suc (rounds - 1) = omega (arith, some) in
+        let is : suc (rounds - 1) ≡ rounds = omega (arith, some) in
         let waits = Read (Some passed) ∷ Paused (pause_after (rounds - 1)) ∷ [] in (
           waits,
           beats,
-          subst (λ (k : ℕ). IsAwaited s k entries waits) (sym is) (left, (passed, refl, isnt)),
+          subst (λ (k : ℕ). IsAwaited s k entries waits) is (left, (passed, refl, isnt)),
         )
     some_left t u false left (last, beats, over) =
         (omega (arith, some), (last, beats, inr (inl (left, over))))

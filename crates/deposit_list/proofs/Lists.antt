@@ -1,14 +1,13 @@
 -- The deposits of a list, line by line.
-use Rattle.std.proofs.Common.{◌≡◌, ℕ, ◌+◌, ◌-◌, ◌≤◌, ◌<◌, List, [], ◌∷◌, ◌++◌, length, take, map}
-use Rattle.std.proofs.Common.{Option, Some, None, Bool, true, false, not, ◌||◌, refl, sym, ap}
-use Rattle.std.proofs.Common.{subst}
+use Rattle.std.proofs.Common.{◌≡◌, ℕ, ◌+◌, ◌-◌, ◌≤◌, ◌<◌, List, [], ◌∷◌, ◌++◌, length}
+use Rattle.std.proofs.Common.{Option, Some, None, Bool, true, false, not, ◌||◌, refl, ap}
 use Rattle.std.proofs.Common.{◌∙◌, arith, append_assoc, append-nil, length-append}
 use Rattle.std.proofs.Math.Bool.{or-false}
 use Rattle.std.proofs.lemmas.List.{take_at, map-append}
 use Rattle.std.proofs.lemmas.List.Elements.{filter_map-append}
 use Rattle.std.proofs.lemmas.List.Folds.{list_all-append, list_any-append}
 use Rattle.std.specs.Option.{option_to_list}
-use Rattle.std.specs.List.{cons_option, list_all, list_any}
+use Rattle.std.specs.List.{cons_option, list_all}
 use Rattle.std.specs.Prelude.{filter_map, is_some, ◌&&◌}
 use Rattle.std.specs.Str.Lines.{lines}
 use Rattle.fed_types.specs.Slots.{SlotName, same_slot}
@@ -27,9 +26,7 @@ single (Some y) = refl
 one_more : (done : List (List ℕ)) (line : List ℕ)
     → filter_map deposit_of done ++ option_to_list (deposit_of line)
     ≡ filter_map deposit_of (done ++ line ∷ [])
-one_more done line =
-    ap (λ (l : List Deposit). filter_map deposit_of done ++ l) (sym (single (deposit_of line)))
-    ∙ sym (filter_map-append deposit_of done (line ∷ []))
+one_more done line = rw (filter_map-append, single)
 
 -- ---- one deposit more, and one line more
 
@@ -46,8 +43,7 @@ has_more : (xs : List Deposit) (y : Deposit) (slot : SlotName)
     → has_slot (xs ++ y ∷ []) slot ≡ (has_slot xs slot || (same_slot slot y.slot || false))
 unfolding has_slot
 has_more xs y slot =
-    ap (list_any (same_slot slot)) (slots_both xs (y ∷ []))
-    ∙ list_any-append (same_slot slot) (slots_of xs) (y.slot ∷ [])
+    rw (slots_both xs (y ∷ [])) (list_any-append (same_slot slot) (slots_of xs) (y.slot ∷ []))
 
 sorted : (a b c d : Bool) → ((a || (b || false)) || (c || d)) ≡ ((a || c) || (b || d))
 sorted true b c d = refl
@@ -61,16 +57,12 @@ repeats_more : (xs : List Deposit) (y : Deposit)
 unfolding has_slot
 repeats_more [] y = refl
 repeats_more (x ∷ xs) y =
-    ap (λ (b : Bool). b || repeats (xs ++ y ∷ [])) (has_more xs y x.slot)
-    ∙ ap (λ (b : Bool). (has_slot xs x.slot || (same_slot x.slot y.slot || false)) || b)
-    (repeats_more xs y)
-    ∙ sorted (has_slot xs x.slot) (same_slot x.slot y.slot) (repeats xs) (has_slot xs y.slot)
-    ∙ ap (λ (b : Bool). (has_slot xs x.slot || repeats xs) || (b || has_slot xs y.slot))
-    (same_slot_equivalence.symm x.slot y.slot)
+    rw (has_more xs y x.slot, repeats_more xs y, same_slot_equivalence.symm x.slot y.slot)
+    (sorted (has_slot xs x.slot) (same_slot y.slot x.slot) (repeats xs) (has_slot xs y.slot))
 
 repeats_by : (xs : List Deposit) (o : Option Deposit)
     → repeats (xs ++ option_to_list o) ≡ (repeats xs || is_of_one xs o)
-repeats_by xs None = ap repeats (append-nil xs) ∙ sym (or-false (repeats xs))
+repeats_by xs None = rw (append-nil, or-false)
 repeats_by xs (Some y) = repeats_more xs y
 
 joined : (a b r s : Bool) → ((a && (b && true)) && not (r || s)) ≡ ((a && not r) && (b && not s))
@@ -84,13 +76,14 @@ lines_more : (done : List (List ℕ)) (line : List ℕ)
     → are_lines (done ++ line ∷ [])
     ≡ (are_lines done && may_follow (filter_map deposit_of done) line)
 lines_more done line =
-    let before : List Deposit = filter_map deposit_of done in
-    ap (λ (b : Bool). b && not (repeats (filter_map deposit_of (done ++ line ∷ []))))
-    (list_all-append is_line done (line ∷ []))
-    ∙ ap (λ (b : Bool). (list_all is_line done && (is_line line && true)) && not b)
-    (ap repeats (sym (one_more done line)) ∙ repeats_by before (deposit_of line))
-    ∙ joined (list_all is_line done) (is_line line) (repeats before)
-    (is_of_one before (deposit_of line))
+    let before = filter_map deposit_of done in
+    rw (
+      list_all-append is_line done (line ∷ []),
+      ← one_more done line,
+      repeats_by before (deposit_of line),
+    )
+    (joined (list_all is_line done) (is_line line) (repeats before)
+    (is_of_one before (deposit_of line)))
 
 -- ---- a text, line by line
 
@@ -117,10 +110,7 @@ none_read text = record {
 with_next : (done : List (List ℕ)) (line : List ℕ) (found : List Deposit) (b : Bool)
     → are_lines done ≡ true → found ≡ filter_map deposit_of done → may_follow found line ≡ b
     → are_lines (done ++ line ∷ []) ≡ b
-with_next done line found b fine are is =
-    lines_more done line
-    ∙ ap (λ (x : Bool). x && may_follow (filter_map deposit_of done) line) fine
-    ∙ ap (λ (l : List Deposit). may_follow l line) (sym are) ∙ is
+with_next done line found b fine are is = rw (lines_more done line, fine, ← are) is
 
 pub next_line : (text rest line after : List ℕ) (number : ℕ) (mid new : List Deposit)
     → IsRead text rest number mid → lines rest ≡ line ∷ lines after
@@ -128,34 +118,26 @@ pub next_line : (text rest line after : List ℕ) (number : ℕ) (mid new : List
     → new ≡ mid ++ option_to_list (deposit_of line) → IsRead text after (number + 1) new
 next_line text rest line after number mid new read first shorter is deposits = record {
   done = read.done ++ line ∷ [];
-  lines_are = read.lines_are ∙ ap (λ (l : List (List ℕ)). read.done ++ l) first
-      ∙ sym (append_assoc read.done (line ∷ []) (lines after));
+  lines_are = rw (read.lines_are, first, append_assoc);
   number_is = omega (arith, read.number_is, length-append read.done (line ∷ []));
   fine = with_next read.done line mid true read.fine read.deposits_are is;
-  deposits_are = deposits
-      ∙ ap (λ (l : List Deposit). l ++ option_to_list (deposit_of line)) read.deposits_are
-      ∙ one_more read.done line;
+  deposits_are = rw (deposits, read.deposits_are) (one_more read.done line);
   short = omega (arith, read.short, shorter);
 }
 
 pub all_read : (text rest : List ℕ) (number : ℕ) (found : List Deposit)
     → IsRead text rest number found → lines rest ≡ [] → ListHas text found
 all_read text rest number found read none =
-    let all : lines text ≡ read.done = read.lines_are
-    ∙ ap (λ (l : List (List ℕ)). read.done ++ l) none ∙ append-nil read.done in (
-      subst (λ (l : List (List ℕ)). are_lines l ≡ true) (sym all) read.fine,
-      read.deposits_are ∙ ap (filter_map deposit_of) (sym all),
-    )
+    let all : lines text ≡ read.done = rw (read.lines_are, none, append-nil) in
+    (rw all read.fine, rw all read.deposits_are)
 
 pub other_line : (text rest line after : List ℕ) (number : ℕ) (found : List Deposit)
     → IsRead text rest number found → lines rest ≡ line ∷ lines after
     → may_follow found line ≡ false → HasOtherLine text number
 other_line text rest line after number found read first other =
-    let all : lines text ≡ read.done ++ line ∷ lines after =
-    read.lines_are ∙ ap (λ (l : List (List ℕ)). read.done ++ l) first in
-    let before : number - 1 ≡ length read.done = omega (arith, read.number_is) in
-    let one : lines text ≡ (read.done ++ line ∷ []) ++ lines after =
-    all ∙ sym (append_assoc read.done (line ∷ []) (lines after)) in
+    let all : lines text ≡ read.done ++ line ∷ lines after = rw (read.lines_are, first) in
+    let before : length read.done ≡ number - 1 = omega (arith, read.number_is) in
+    let one : lines text ≡ (read.done ++ line ∷ []) ++ lines after = rw (all, append_assoc) in
     let longer : length (read.done ++ line ∷ []) ≡ number =
     length-append read.done (line ∷ []) ∙ omega (arith, read.number_is) in (
       omega (arith, read.number_is),
@@ -165,9 +147,7 @@ other_line text rest line after number found read first other =
         ap length all,
         length-append read.done (line ∷ lines after),
       ),
-      ap are_lines (ap (take (number - 1)) all
-          ∙ take_at read.done (line ∷ lines after) (number - 1) (sym before)) ∙ read.fine,
-      ap are_lines (ap (take number) one
-          ∙ take_at (read.done ++ line ∷ []) (lines after) number longer)
-          ∙ with_next read.done line found false read.fine read.deposits_are other,
+      rw (all, take_at read.done (line ∷ lines after) (number - 1) before) read.fine,
+      rw (one, take_at (read.done ++ line ∷ []) (lines after) number longer)
+          (with_next read.done line found false read.fine read.deposits_are other),
     )

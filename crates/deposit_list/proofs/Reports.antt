@@ -1,33 +1,32 @@
 -- What is written of deposits.
 use Rattle.std.proofs.Common.{◌≡◌, ℕ, ◌+◌, ◌<◌, ◌≤◌, List, [], ◌∷◌, ◌++◌, length, take, drop}
-use Rattle.std.proofs.Common.{get_or, min, arith}
-use Rattle.std.proofs.Common.{Option, Result, Ok, Err, refl, sym, ap, subst, ◌∙◌, append-nil, inl}
-use Rattle.std.proofs.Common.{inr}
+use Rattle.std.proofs.Common.{get_or, min, arith, Option, Result, Ok, Err, refl, sym, append-nil}
+use Rattle.std.proofs.Common.{inl, inr}
 use Rattle.std.proofs.KnownBytes.{Appends-trans}
 use Rattle.std.proofs.lemmas.List.{take_more, take-append-drop}
-use Rattle.std.specs.Prelude.{IfOk, OnOk, OnErr, IsErrAnd}
+use Rattle.std.specs.Prelude.{IfOk, OnOk, OnErr}
 use Rattle.std.specs.Io.KnownBytes.{Appends}
 use Rattle.outcomes.specs.declared.fault.ProgramFault.{ProgramFault}
 use Rattle.outcomes.specs.declared.fault.ProgramFault.TheVariants as faults
 use Rattle.outcomes.specs.Outcomes.{no_memory}
-use Rattle.udp_site.specs.Traffic.{Move, Grows}
+use Rattle.udp_site.specs.Traffic.{Move}
 use Rattle.udp_site.proofs.Growth.{Grows-trans}
-use Rattle.site_client.specs.Answers.{IsWritten}
 use Rattle.catch_up.specs.declared.rounds.Target.{Target}
 use Rattle.catch_up.specs.Lines.{count_line}
-use Rattle.catch_up.specs.Reports.{status_of, cut_short}
-use Rattle.catch_up.specs.Times.{Beat, Beats}
+use Rattle.catch_up.specs.Reports.{status_of}
+use Rattle.catch_up.specs.Times.{Beat}
 use Rattle.catch_up.specs.inner.Progress.{AppendsPart}
 use Rattle.catch_up.proofs.Paces.{Beats-trans}
 use Rattle.catch_up.proofs.Parts.{whole_part, part_of_both, then_part}
+use Rattle.catch_up.proofs.Reports.{then_memory}
 use Rattle.deposit_list.specs.declared.aim.Aim.{Aim}
 use Rattle.deposit_list.specs.declared.deposit.Deposit.{Deposit}
 use Rattle.deposit_list.specs.declared.entry.Entry.{Entry}
 use Rattle.catch_up.specs.declared.said_answers.AskFault.{AskFault}
 use Rattle.catch_up.specs.declared.said_answers.AskFault.TheVariants.{Memory, Output}
 use Rattle.deposit_list.specs.Lines.{entry_line}
-use Rattle.deposit_list.specs.Windows.{AreWindows, IsCutWindow, window_size}
-use Rattle.deposit_list.specs.Reports.{report, reached_in, entry_lines, AreSent}
+use Rattle.deposit_list.specs.Windows.{IsCutWindow, window_size}
+use Rattle.deposit_list.specs.Reports.{report, entry_lines, AreSent}
 use Rattle.deposit_list.specs.inner.Progress.{IsCut, OnlyMemory, AreReported}
 use Rattle.deposit_list.proofs.Asking.{IsCutBy}
 use Rattle.deposit_list.proofs.Windows.{AreSentTo, AreSentBut, lines_both}
@@ -36,36 +35,30 @@ use Rattle.deposit_list.proofs.Windows.{AreSentTo, AreSentBut, lines_both}
 
 module _ (to : ℕ) (entries : List Entry) (place : ℕ) (d : Entry) (within : place < length entries)
   where
-    at_place : take (place + 1) entries ≡ take place entries ++ get_or entries place d ∷ []
-    at_place = take_more entries place d within
-
     its_line : entry_lines to (get_or entries place d ∷ []) ≡ entry_line to (get_or entries place d)
     unfolding entry_lines
     its_line = append-nil (entry_line to (get_or entries place d))
+
+    lines_at : entry_lines to (take (place + 1) entries)
+        ≡ entry_lines to (take place entries) ++ entry_line to (get_or entries place d)
+    lines_at =
+        let this = get_or entries place d ∷ [] in
+        rw (take_more entries place d within, lines_both to (take place entries) this, its_line)
 
     pub one_more_line : (a b c : Option (List ℕ))
         → Appends a b (entry_lines to (take place entries))
         → Appends b c (entry_line to (get_or entries place d))
         → Appends a c (entry_lines to (take (place + 1) entries))
-    one_more_line a b c p q =
-        subst (λ (es : List Entry). Appends a c (entry_lines to es)) (sym at_place)
-        (subst (Appends a c) (sym (lines_both to (take place entries)
-        (get_or entries place d ∷ [])))
-        (Appends-trans a b c _ _ p (subst (Appends b c) (sym its_line) q)))
+    one_more_line a b c p q = rw lines_at (Appends-trans a b c _ _ p q)
 
     pub line_cut : (a b c : Option (List ℕ)) → Appends a b (entry_lines to (take place entries))
         → AppendsPart b c (entry_line to (get_or entries place d))
         → AppendsPart a c (entry_lines to entries)
     line_cut a b c p q =
-        subst (λ (es : List Entry). AppendsPart a c (entry_lines to es))
-        (take-append-drop (place + 1) entries)
-        (subst (AppendsPart a c)
-        (sym (lines_both to (take (place + 1) entries) (drop (place + 1) entries)))
-        (part_of_both a c _ _
-        (subst (λ (es : List Entry). AppendsPart a c (entry_lines to es)) (sym at_place)
-        (subst (AppendsPart a c)
-        (sym (lines_both to (take place entries) (get_or entries place d ∷ [])))
-        (then_part a b c _ _ p (subst (AppendsPart b c) (sym its_line) q))))))
+        let first = take (place + 1) entries in
+        let rest = drop (place + 1) entries in
+        rw (← take-append-drop (place + 1) entries, lines_both to first rest)
+        (part_of_both a c (entry_lines to first) _ (rw lines_at (then_part a b c _ _ p q)))
 
 -- ---- all of them
 
@@ -85,31 +78,14 @@ cut_first aim asked rest window after moves beats parts short (inr (fresh, are, 
 module _ (aim : Aim) (asked : Target) (deposits : List Deposit) (t u v : Option (List Beat))
     (a b c : Option (List Move)) (o n : Option (List ℕ)) where
   -- memory ran out while a window was sent
-  pub window_stopped : (rest window after : List Deposit) (reached : ℕ)
-      (result : Result ℕ AskFault) → rest ≡ window ++ after
-      → length window ≡ min (window_size aim) (length rest) → IsErrAnd result (λ e. e ≡ Memory)
+  pub window_stopped : (rest window after : List Deposit) (reached : ℕ) → rest ≡ window ++ after
+      → length window ≡ min (window_size aim) (length rest)
       → AreSentTo aim asked deposits rest reached t u a b o n
-      → IsCutBy aim asked window u v b c → AreReported aim asked deposits t v a c o n result
-  window_stopped rest window after reached (Ok status) parts long is sent stops = absurd is
-  window_stopped rest window after reached (Err fault) parts long is (
-    windows,
-    sent,
-    entries,
-    all,
-    full,
-    counted,
-    lengths,
-    (
-      moves,
-      beats,
-      grows,
-      beaten,
-      are,
-      said,
-    ),
-  )
-      (others, later, goes, waits, cut) =
-      subst (λ (f : AskFault). AreReported aim asked deposits t v a c o n (Err f)) (sym is) (
+      → IsCutBy aim asked window u v b c
+      → AreReported aim asked deposits t v a c o n (Err Memory)
+  window_stopped rest window after reached parts long
+      (windows, sent, entries, all, _, _, _, (moves, beats, grows, beaten, are, said))
+      (others, later, goes, waits, cut) = (
         windows,
         sent,
         rest,
@@ -123,49 +99,35 @@ module _ (aim : Aim) (asked : Target) (deposits : List Deposit) (t u v : Option 
         all,
         are,
         cut_first aim asked rest window after others later parts (omega (arith, long)) cut,
-        part_of_both o n (entry_lines asked.to entries)
-            (count_line (reached_in aim entries) (length deposits)) (whole_part o n _ said),
+        part_of_both o n (entry_lines asked.to entries) _ (whole_part o n _ said),
       )
 
 module _ (aim : Aim) (asked : Target) (deposits : List Deposit) (t v : Option (List Beat))
     (a c : Option (List Move)) (o n : Option (List ℕ)) where
   -- a line of it wasn't written
   pub lines_stopped : (after : List Deposit) (reached : ℕ) (now : List Entry)
-      (q : Option (List ℕ)) (result : Result ℕ AskFault) (fault : AskFault)
-      → IsErrAnd result (λ e. e ≡ fault)
+      (q : Option (List ℕ)) (fault : AskFault)
       → AreSentBut aim asked deposits after reached now t v a c o n
       → AppendsPart n q (entry_lines asked.to now)
-      → AreReported aim asked deposits t v a c o q result
-  lines_stopped after reached now q (Ok status) fault is sent part = absurd is
-  lines_stopped after reached now q (Err e) fault is (
-    windows,
-    sent,
-    entries,
-    all,
-    full,
-    counted,
-    lengths,
-    (moves, beats, grows, beaten, are),
-    (said, lines_are, before),
-  ) part = (
-    windows,
-    sent,
-    after,
-    entries,
-    moves,
-    [],
-    beats,
-    [],
-    subst (Grows a c) (sym (append-nil moves)) grows,
-    subst (Beats t v) (sym (append-nil beats)) beaten,
-    all,
-    are,
-    only_none aim asked after e,
-    part_of_both o q (entry_lines asked.to entries)
-        (count_line (reached_in aim entries) (length deposits))
-        (subst (AppendsPart o q) (sym lines_are)
-        (then_part o n q said (entry_lines asked.to now) before part)),
-  )
+      → AreReported aim asked deposits t v a c o q (Err fault)
+  lines_stopped after reached now q fault
+      (windows, sent, entries, all, _, _, _, (moves, beats, grows, beaten, are), said) part = (
+        windows,
+        sent,
+        after,
+        entries,
+        moves,
+        [],
+        beats,
+        [],
+        rw append-nil grows,
+        rw append-nil beaten,
+        all,
+        are,
+        only_none aim asked after fault,
+        part_of_both o q (entry_lines asked.to entries) _
+            (rw said.1 (then_part o n q said.0 _ said.2 part)),
+      )
 
   -- all are sent, and the count is written or not
   pub counted_all : (rest : List Deposit) (reached : ℕ) (q : Option (List ℕ))
@@ -175,23 +137,8 @@ module _ (aim : Aim) (asked : Target) (deposits : List Deposit) (t v : Option (L
       → OnOk result (Appends n q (count_line reached (length deposits)))
       → OnErr result (AppendsPart n q (count_line reached (length deposits)))
       → AreReported aim asked deposits t v a c o q result
-  counted_all rest reached q (Ok given) none (
-    windows,
-    sent,
-    entries,
-    all,
-    full,
-    counted,
-    lengths,
-    (
-      moves,
-      beats,
-      grows,
-      beaten,
-      are,
-      said,
-    ),
-  )
+  counted_all rest reached q (Ok given) none
+      (windows, sent, entries, all, _, counted, _, (moves, beats, grows, beaten, are, said))
       status ok err = (
         windows,
         entries,
@@ -199,29 +146,12 @@ module _ (aim : Aim) (asked : Target) (deposits : List Deposit) (t v : Option (L
         beats,
         grows,
         beaten,
-        subst (λ (l : List Deposit). AreWindows aim asked windows l entries moves beats)
-            (sym (all ∙ (ap (λ (l : List Deposit). sent ++ l) none ∙ append-nil sent))) are,
-        status ∙ ap (λ (k : ℕ). status_of k (length deposits)) counted,
-        Appends-trans o n q (entry_lines asked.to entries) _ said
-            (subst (λ (k : ℕ). Appends n q (count_line k (length deposits))) counted ok),
+        rw (all, none, append-nil) are,
+        rw counted at status,
+        Appends-trans o n q _ _ said (rw counted at ok),
       )
-  counted_all rest reached q (Err fault) none (
-    windows,
-    sent,
-    entries,
-    all,
-    full,
-    counted,
-    lengths,
-    (
-      moves,
-      beats,
-      grows,
-      beaten,
-      are,
-      said,
-    ),
-  )
+  counted_all rest reached q (Err fault) none
+      (windows, sent, entries, all, _, counted, _, (moves, beats, grows, beaten, are, said))
       status ok err = (
         windows,
         sent,
@@ -231,22 +161,13 @@ module _ (aim : Aim) (asked : Target) (deposits : List Deposit) (t v : Option (L
         [],
         beats,
         [],
-        subst (Grows a c) (sym (append-nil moves)) grows,
-        subst (Beats t v) (sym (append-nil beats)) beaten,
+        rw append-nil grows,
+        rw append-nil beaten,
         all,
         are,
         only_none aim asked rest fault,
-        then_part o n q (entry_lines asked.to entries) _ said
-            (subst (λ (k : ℕ). AppendsPart n q (count_line k (length deposits))) counted err),
+        then_part o n q _ _ said (rw counted at err),
       )
-
-pub on_err : {T : Type 0} (result : Result T AskFault) (P : Type 0) → P → OnErr result P
-on_err (Ok done) P p = tt
-on_err (Err fault) P p = p
-
-output_is : (fault : ProgramFault)
-    → ◌≡◌ {A = Result ℕ ProgramFault} (Err fault) (Err faults.Output) → fault ≡ faults.Output
-output_is fault is = cc
 
 -- ---- what the command ends with
 
@@ -295,8 +216,8 @@ module _ (aim : Aim) (asked : Target) (deposits : List Deposit) (t u : Option (L
         entries,
         moves,
         beats,
-        subst (Grows a b) (ap (λ (l : List Move). moves ++ l) none ∙ append-nil moves) grows,
-        subst (Beats t u) (ap (λ (l : List Beat). beats ++ l) idle ∙ append-nil beats) beaten,
+        rw (none, append-nil moves) at grows,
+        rw (idle, append-nil beats) at beaten,
         all,
         tt,
         are,
@@ -306,8 +227,7 @@ module _ (aim : Aim) (asked : Target) (deposits : List Deposit) (t u : Option (L
   pub memory_ran_out : (p : Option (List ℕ)) (result : Result ℕ ProgramFault)
       → AreReported aim asked deposits t u a b o n (Err Memory)
       → IfOk result (λ given. (given ≡ 1) × Appends n p no_memory.text)
-      → OnErr result ((result ≡ Err faults.Output)
-      × ((k : ℕ) × Appends n p (take k no_memory.text)))
+      → OnErr result ((result ≡ Err faults.Output) × AppendsPart n p no_memory.text)
       → AreSent aim asked deposits t u a b o p result
   memory_ran_out p result (
     windows,
@@ -325,6 +245,7 @@ module _ (aim : Aim) (asked : Target) (deposits : List Deposit) (t u : Option (L
     only,
     (count, part),
   ) ok err =
+      let text = report aim asked.to (length deposits) entries in
       inr (
         windows,
         sent,
@@ -339,14 +260,5 @@ module _ (aim : Aim) (asked : Target) (deposits : List Deposit) (t u : Option (L
         all,
         are,
         only,
-        (count, go result ok err),
+        (count, then_memory text o n p count result part ok err),
       )
-    where
-      go : (r : Result ℕ ProgramFault)
-          → IfOk r (λ given. (given ≡ 1) × Appends n p no_memory.text)
-          → OnErr r ((r ≡ Err faults.Output)
-          × ((k : ℕ) × Appends n p (take k no_memory.text)))
-          → IsWritten o p r (cut_short count (report aim asked.to (length deposits) entries))
-      go (Ok status) ok err = (ok.0, Appends-trans o n p _ no_memory.text part ok.1)
-      go (Err fault) ok err =
-          (output_is fault err.0, then_part o n p _ no_memory.text part err.1)

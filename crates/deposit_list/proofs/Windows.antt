@@ -1,6 +1,6 @@
 -- Windows, one after another.
 use Rattle.std.proofs.Common.{◌≡◌, ℕ, suc, ◌+◌, ◌*◌, ◌≤◌, ◌<◌, min, List, [], ◌∷◌, ◌++◌, length}
-use Rattle.std.proofs.Common.{Option, Ok, refl, sym, ap, subst, ◌∙◌}
+use Rattle.std.proofs.Common.{Option, Ok, refl, sym, ap, ◌∙◌}
 use Rattle.std.proofs.Common.{arith, Bool, true, false, eqb, cond, not, append_assoc}
 use Rattle.std.proofs.Common.{length-append, inl, inr, take, get_or}
 use Rattle.std.proofs.KnownBytes.{Appends-nil, Appends-trans}
@@ -9,7 +9,7 @@ use Rattle.std.proofs.lemmas.List.Elements.{filter-append}
 use Rattle.std.proofs.lemmas.List.{length-take}
 use Rattle.std.proofs.lemmas.List.Filters.{length-filter_both, length-filter_more}
 use Rattle.std.proofs.lemmas.Grind.{flat_map-append}
-use Rattle.std.specs.Prelude.{◌≢◌, ◌⊎◌, filter, Vec}
+use Rattle.std.specs.Prelude.{◌≢◌, ◌⊎◌, Vec}
 use Rattle.std.specs.Global.{Global}
 use Rattle.std.specs.Io.KnownBytes.{Appends}
 use Rattle.udp_site.specs.Traffic.{Move, Grows}
@@ -33,9 +33,7 @@ pub reached_both : (aim : Aim) (xs ys : List Entry)
     → reached_in aim (xs ++ ys) ≡ reached_in aim xs + reached_in aim ys
 unfolding reached_in
 reached_both aim xs ys =
-    ap length (filter-append (λ entry. is_reached aim entry.standing) xs ys)
-    ∙ length-append (filter (λ entry. is_reached aim entry.standing) xs)
-    (filter (λ entry. is_reached aim entry.standing) ys)
+    rw (filter-append (λ entry. is_reached aim entry.standing) xs ys) (length-append _ _)
 
 pub lines_both : (to : ℕ) (xs ys : List Entry)
     → entry_lines to (xs ++ ys) ≡ entry_lines to xs ++ entry_lines to ys
@@ -46,20 +44,16 @@ pub none_reached : (aim : Aim) → 0 ≡ reached_in aim []
 unfolding reached_in
 none_reached aim = refl
 
-pub no_lines : (to : ℕ) → [] ≡ entry_lines to []
+pub no_lines : (to : ℕ) → entry_lines to [] ≡ []
 unfolding entry_lines
 no_lines to = refl
-
--- no more pass a test than there are
-filter_bound : (p : Entry → Bool) (entries : List Entry)
-    → length (filter p entries) ≤ length entries
-filter_bound p entries =
-    omega (arith, length-filter_both p (λ (e : Entry). not (p e)) (λ (e : Entry). refl) entries)
 
 -- no more are counted than there are
 reached_bound : (aim : Aim) (entries : List Entry) → reached_in aim entries ≤ length entries
 unfolding reached_in
-reached_bound aim entries = filter_bound (λ (e : Entry). is_reached aim e.standing) entries
+reached_bound aim entries =
+    let counts = λ (e : Entry). is_reached aim e.standing in
+    omega (arith, length-filter_both counts (λ e. not (counts e)) (λ _. refl) entries)
 
 pub reached_at : (aim : Aim) (entries : List Entry) (place : ℕ)
     → reached_in aim (take place entries) ≤ place
@@ -74,39 +68,20 @@ unfolding reached_in
 reached_more aim entries place d within =
     length-filter_more (λ (e : Entry). is_reached aim e.standing) entries place d within
 
-module _ (aim : Aim) (entries : List Entry) (place : ℕ) (d : Entry) (reached now : ℕ)
-    (within : place < length entries) (is : d ≡ get_or entries place d)
-    (so_far : reached ≡ reached_in aim (take place entries)) where
-  counts : (b : Bool) → is_reached aim d.standing ≡ b
-      → reached_in aim (take (place + 1) entries) ≡ reached_in aim (take place entries) + cond b 1 0
-  counts b said =
-      reached_more aim entries place d within
-      ∙ ap (λ (x : Bool). reached_in aim (take place entries) + cond x 1 0)
-      (ap (λ (e : Entry). is_reached aim e.standing) (sym is) ∙ said)
-
-  pub one_reached : is_reached aim d.standing ≡ true → now ≡ reached + 1
-      → now ≡ reached_in aim (take (place + 1) entries)
-  one_reached said more =
-      let next : reached_in aim (take (place + 1) entries)
-      ≡ reached_in aim (take place entries) + 1 = counts true said in
-      omega (arith, more, so_far, next)
-
-  pub none_more : is_reached aim d.standing ≡ false → now ≡ reached
-      → now ≡ reached_in aim (take (place + 1) entries)
-  none_more said same =
-      let next : reached_in aim (take (place + 1) entries)
-      ≡ reached_in aim (take place entries) + 0 = counts false said in
-      omega (arith, same, so_far, next)
+-- with one entry more, which is counted or not
+pub reached_next : (aim : Aim) (entries : List Entry) (place : ℕ) (d : Entry) (reached now : ℕ)
+    (counts : Bool) → place < length entries → d ≡ get_or entries place d
+    → reached ≡ reached_in aim (take place entries) → is_reached aim d.standing ≡ counts
+    → now ≡ reached + cond counts 1 0 → now ≡ reached_in aim (take (place + 1) entries)
+reached_next aim entries place d reached now counts within is so_far said more =
+    let one : is_reached aim (get_or entries place d).standing ≡ counts = rw (← is) said in
+    cc (reached_more aim entries place d within)
 
 -- ---- how long windows are
 
 some_size : (aim : Aim) → 1 ≤ window_size aim
 some_size aims.Registered = omega arith
 some_size (aims.Known seconds) = omega arith
-
-no_windows : (aim : Aim) → 0 ≡ 0 * window_size aim
-no_windows aims.Registered = refl
-no_windows (aims.Known seconds) = refl
 
 one_window : (aim : Aim) (windows : ℕ)
     → suc windows * window_size aim ≡ windows * window_size aim + window_size aim
@@ -129,23 +104,18 @@ AreSentTo aim asked deposits rest reached since until before after old new =
 module _ (aim : Aim) (asked : Target) (deposits : List Deposit) (t : Option (List Beat))
     (a : Option (List Move)) (o : Option (List ℕ)) where
   pub none_sent : AreSentTo aim asked deposits deposits 0 t t a a o o
-  none_sent = (
-    0,
-    [],
-    [],
-    refl,
-    inr (no_windows aim),
-    none_reached aim,
-    refl,
-    (
-      [],
-      [],
-      Grows-none a,
-      Beats-none t,
-      (refl, refl, refl, refl),
-      subst (Appends o o) (no_lines asked.to) (Appends-nil o),
-    ),
-  )
+  none_sent =
+      let lines : Appends o o (entry_lines asked.to []) =
+      rw (no_lines asked.to) (Appends-nil o) in (
+        0,
+        [],
+        [],
+        refl,
+        inr (omega arith),
+        none_reached aim,
+        refl,
+        ([], [], Grows-none a, Beats-none t, (refl, refl, refl, refl), lines),
+      )
 
 -- the same, but the lines of the last window aren't written
 abbrev pub AreSentBut : Aim → Target → List Deposit → (rest : List Deposit) → (reached : ℕ)
@@ -168,8 +138,7 @@ none_left (d ∷ rest) is =
     absurd (omega arith)
 
 pub some_left : (rest : List Deposit) → false ≡ eqb (length rest) 0 → rest ≢ []
-some_left [] is = absurd (cc is)
-some_left (d ∷ rest) is = λ e. absurd (cc e)
+some_left rest is none = absurd (cc (rw none at is))
 
 some_first : (rest : List Deposit) → rest ≢ [] → 1 ≤ length rest
 some_first [] some = absurd (some refl)
@@ -185,41 +154,22 @@ module _ (aim : Aim) (asked : Target) (deposits : List Deposit) (t u v : Option 
       → IsWindowAsked aim asked window u v b c (Ok now)
       → AreSentBut aim asked deposits after (reached + reached_in aim now.items) now.items t v a c
       o n
-  one_more_window rest window after reached now some parts long (
-    windows,
-    sent,
-    entries,
-    all,
-    full,
-    counted,
-    lengths,
-    (
-      moves,
-      beats,
-      grows,
-      beaten,
-      are,
-      said,
-    ),
-  )
+  one_more_window rest window after reached now some parts long
+      (windows, sent, entries, all, full, counted, equal, (moves, beats, grows, beaten, are, said))
       (last, others, goes, waits, its, count) =
       let size = some_size aim in
       let first = some_first rest some in
-      let whole : length sent ≡ windows * window_size aim = is_full full in
+      let whole : length sent ≡ windows * window_size aim =
+      elim full [ inl none ↦ absurd (some none) | inr whole ↦ whole ] in
       let sizes : length rest ≡ length window + length after =
-      ap length parts ∙ length-append window after in (
+      rw parts (length-append window after) in (
         suc windows,
         sent ++ window,
         entries ++ now.items,
-        all
-            ∙ (ap (λ (l : List Deposit). sent ++ l) parts
-            ∙ sym (append_assoc sent window after)),
+        rw (all, parts, append_assoc sent window after),
         goes_on after whole sizes,
-        ap (λ (k : ℕ). k + reached_in aim now.items) counted
-            ∙ sym (reached_both aim entries now.items),
-        length-append entries now.items
-            ∙ (ap (λ (k : ℕ). k + length now.items) lengths
-            ∙ (ap (λ (k : ℕ). length sent + k) count ∙ sym (length-append sent window))),
+        rw (counted, reached_both aim entries now.items),
+        simp length-append (cc),
         (
           moves ++ last,
           beats ++ others,
@@ -243,11 +193,6 @@ module _ (aim : Aim) (asked : Target) (deposits : List Deposit) (t u v : Option 
         (entry_lines asked.to entries, lines_both asked.to entries now.items, said),
       )
     where
-      is_full : (rest ≡ []) ⊎ (length sent ≡ windows * window_size aim)
-          → length sent ≡ windows * window_size aim
-      is_full (inl none) = absurd (some none)
-      is_full (inr full) = full
-
       goes_on : (xs : List Deposit) → length sent ≡ windows * window_size aim
           → length rest ≡ length window + length xs
           → (xs ≡ []) ⊎ (length (sent ++ window) ≡ suc windows * window_size aim)
@@ -256,39 +201,18 @@ module _ (aim : Aim) (asked : Target) (deposits : List Deposit) (t u v : Option 
           inr (length-append sent window
           ∙ (omega (arith, whole, long, sizes) ∙ sym (one_window aim windows)))
 
+module _ (aim : Aim) (asked : Target) (deposits : List Deposit) (t v : Option (List Beat))
+    (a c : Option (List Move)) (o n : Option (List ℕ)) where
   -- its lines are written
   pub lines_written : (after : List Deposit) (reached : ℕ) (now : List Entry)
       (q : Option (List ℕ)) → Appends n q (entry_lines asked.to now)
       → AreSentBut aim asked deposits after reached now t v a c o n
       → AreSentTo aim asked deposits after reached t v a c o q
-  lines_written after reached now q wrote (
-    windows,
-    sent,
-    entries,
-    all,
-    full,
-    counted,
-    lengths,
-    (moves, beats, grows, beaten, are),
-    (said, is, before),
-  ) = (
-    windows,
-    sent,
-    entries,
-    all,
-    full,
-    counted,
-    lengths,
-    (
-      moves,
-      beats,
-      grows,
-      beaten,
-      are,
-      subst (Appends o q) (sym is)
-          (Appends-trans o n q said (entry_lines asked.to now) before wrote),
-    ),
-  )
+  lines_written after reached now q wrote
+      (count, sent, entries, all, full, counted, equal, (moves, beats, grows, beaten, are), said) =
+      let lines : Appends o q (entry_lines asked.to entries) =
+      rw said.1 (Appends-trans o n q said.0 _ said.2 wrote) in
+      (count, sent, entries, all, full, counted, equal, (moves, beats, grows, beaten, are, lines))
 
 pub no_overflow : (aim : Aim) (asked : Target) (deposits rest : List Deposit) (reached : ℕ)
     (now : List Entry) (t v : Option (List Beat)) (a c : Option (List Move))

@@ -1,7 +1,4 @@
-use Rattle.std.proofs.Common.{◌≡◌, true, not, List, ◌∷◌, [], ◌++◌, sym, ap, subst, ◌∙◌}
-use Rattle.fed_types.specs.Slots.{SlotName}
-use Rattle.slot_table.specs.Listings.{AreListed}
-use Rattle.slot_table.specs.Rows.{IsWith}
+use Rattle.std.proofs.Common.{◌≡◌, true, not, List, ◌∷◌, [], ◌++◌, sym, ap, ◌∙◌}
 use Rattle.slot_table.proofs.Listings.{newly_listed}
 use Rattle.deposit_list.specs.declared.deposit.Deposit.{Deposit}
 use Rattle.deposit_list.specs.Lists.{slots_of, has_slot}
@@ -24,11 +21,7 @@ pub invariant_of-self-2 : goal.invariant_of-self-2
 invariant_of-self-2 c =
     let items : List Deposit = c.self.inside.deposits.items in
     let more : c.push_reserved.new.self.items ≡ items ++ c.args.deposit ∷ [] =
-    c.push_reserved.ensures.items
-    ∙ ap (λ (before : List Deposit). before ++ c.args.deposit ∷ []) c.in_ok-reserve.ensures.items in
-    subst (λ (listed : List SlotName). AreListed listed c.put.new.self)
-    (sym (ap slots_of more ∙ slots_both items (c.args.deposit ∷ [])))
+    cc (c.push_reserved.ensures.items, c.in_ok-reserve.ensures.items) in
+    rw (more, slots_both items (c.args.deposit ∷ []))
     (newly_listed (slots_of items) c.self.inside.slots c.put.new.self c.args.deposit.slot true
-    c.self.invariant
-    (subst (λ (key : SlotName). IsWith c.self.inside.slots c.put.new.self key true)
-    c.in_ok-copy.ensures c.in_ok-put.ensures.ok))
+    c.self.invariant (rw c.in_ok-copy.ensures at c.in_ok-put.ensures.ok))
