@@ -4,7 +4,6 @@ pub mod Runs
 pub mod Counted
 pub mod Refined
 pub mod Cells
-pub mod Stays
 pub mod Overlapping
 pub mod NewFiles
 pub mod AskedDeposits

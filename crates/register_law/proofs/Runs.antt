@@ -1,6 +1,5 @@
 -- A run of events: what it leaves for a history to go on from, and where its deposits come from.
-use Rattle.std.proofs.Common.{ℕ, ◌≡◌, ◌⊎◌, inl, inr, refl, sym, ap, subst}
-use Rattle.std.proofs.Common.{List, [], ◌∷◌, ◌++◌, Some}
+use Rattle.std.proofs.Common.{ℕ, ◌≡◌, ◌⊎◌, inl, inr, refl, sym, ap, List, [], ◌∷◌, ◌++◌, Some}
 use Rattle.std.specs.Prelude.{Ok}
 use Rattle.fed_types.specs.declared.bag_id.BagId.{BagId}
 use Rattle.fed_types.specs.Quorums.{QuorumSystem, AreQuorums}
@@ -13,12 +12,10 @@ use Rattle.fed_types.specs.Laws.Quorums.{are_quorums}
 use Rattle.cell_device.specs.Devices.{Device}
 use Rattle.records.specs.declared.entry.Entry.TheVariants as entry
 use Rattle.schedule.specs.declared.fate.Fate.{Fate}
-use Rattle.world_law.specs.Laws.{OnRecord, IsChosen, site_of}
-use Rattle.world_law.specs.Networks.{Network, Event, Deposit, Propose, Recover, Query, Deliver}
-use Rattle.world_law.specs.Networks.{Raw, Stop, Start, new_network, new_site, happens, run}
-use Rattle.world_law.specs.Networks as networks
+use Rattle.audit.proofs.Reported.{run_on}
+use Rattle.world_law.specs.Laws.{OnRecord, site_of}
+use Rattle.world_law.specs.Networks.{Network, Event, Deposit, new_network, new_site, happens, run}
 use Rattle.world_law.specs.WellFormed.{AreWellFormedEvents}
-use Rattle.world_law.proofs.Deeds.{some_same}
 use Rattle.world_law.proofs.Kept.{Kept}
 use Rattle.world_law.proofs.Reports.{chosen_from}
 use Rattle.world_law.proofs.Runs.{DepositOf, happens_kept, new_kept, run_kept}
@@ -48,29 +45,17 @@ module _ (q : QuorumSystem) where
       → OnRecord (happens q w e).network n slot (entry.Deposit bag)
       → Came w (e ∷ es) slot bag
   unfolding run
-  came_first w (Deposit site s checked fate) es n slot bag at (same, found) kept = record {
-    before = [];
-    site = n;
-    fate = fate;
-    later = es;
-    split = ap (λ (e : Event). e ∷ es) is;
-    on_record =
-        subst (λ (e : Event). OnRecord (happens q w e).network n slot (entry.Deposit bag)) is kept;
-  }
-    where
-      place : site ≡ n
-      place = some_same at
-
-      is : Deposit site s checked fate ≡ Deposit n slot (Ok bag) fate
-      is = cc
-  came_first w (Propose site s fate) es n slot bag at none kept = absurd none
-  came_first w (Recover site s fate) es n slot bag at none kept = absurd none
-  came_first w (networks.Ask site member s fate) es n slot bag at none kept = absurd none
-  came_first w (Query site s) es n slot bag at none kept = absurd none
-  came_first w (Deliver number fate) es n slot bag at none kept = absurd none
-  came_first w (Raw site) es n slot bag at none kept = absurd none
-  came_first w (Stop site) es n slot bag at none kept = absurd none
-  came_first w (Start site) es n slot bag at none kept = absurd none
+  came_first w (Deposit site s checked fate) es n slot bag at (same, found) kept =
+      let is : Deposit site s checked fate ≡ Deposit n slot (Ok bag) fate = cc in
+      record {
+        before = [];
+        site = n;
+        fate = fate;
+        later = es;
+        split = cc is;
+        on_record = rw is at kept;
+      }
+  came_first w _ es n slot bag at none kept = absurd none
 
   came_later : (w : Network) (e : Event) (es : List Event) (slot : SlotName) (bag : BagId)
       → Came (happens q w e).network es slot bag → Came w (e ∷ es) slot bag
@@ -80,7 +65,7 @@ module _ (q : QuorumSystem) where
     site = c.site;
     fate = c.fate;
     later = c.later;
-    split = ap (λ (es : List Event). e ∷ es) c.split;
+    split = cc c.split;
     on_record = c.on_record;
   }
 
@@ -99,17 +84,13 @@ module _ (q : QuorumSystem) where
         | inr later ↦ inr (came_later w e es slot bag later)
       ]
 
-  none_new : (n : ℕ) (slot : SlotName) (bag : BagId)
-      → OnRecord new_network n slot (entry.Deposit bag) → ⊥
-  unfolding new_network new_site
-  none_new n slot bag d = has_none d
-
   pub deposited_in : AreQuorums q → (events : List Event) (n : ℕ) (slot : SlotName)
       (bag : BagId) → OnRecord (run q new_network events) n slot (entry.Deposit bag)
       → WasDepositedIn q events slot bag
+  unfolding new_network new_site
   deposited_in laws events n slot bag kept =
       elim (came laws events new_network (new_kept q) n slot bag kept) [
-        | inl old ↦ absurd (none_new n slot bag old)
+        | inl old ↦ absurd (has_none old)
         | inr c ↦ record {
           before = c.before;
           site = c.site;
@@ -120,15 +101,9 @@ module _ (q : QuorumSystem) where
         }
       ]
 
-  run_both : (before later : List Event) (w : Network)
-      → run q w (before ++ later) ≡ run q (run q w before) later
-  unfolding run
-  run_both [] later w = refl
-  run_both (e ∷ before) later w = run_both before later (happens q w e).network
-
 pub chosen_remains : ChosenRemains
 chosen_remains q events later slot bag laws chosen =
-    subst (λ (w : Network). IsChosen q w slot bag) (sym (run_both q events later new_network))
+    rw (← run_on q events later new_network)
     (chosen_from q laws later (run q new_network events) (run_kept q laws events) slot bag chosen)
 
 -- ---- what it leaves

@@ -1,4 +1,4 @@
-use Rattle.register_law.proofs.Stays.{carried_known_stays}
+use Rattle.register_law.proofs.Cells.{carried_known_stays}
 use Rattle.register_law.proofs.law.carried_known_stays.Goals as goal
 
 pub returns : goal.returns
