@@ -1,6 +1,5 @@
 -- A run in which a register is decided, event by event, and a history that goes on from its cells.
-use Rattle.std.proofs.Common.{ℕ, ◌≡◌, inl, refl, sym, ap, subst, ◌∙◌, true, cond}
-use Rattle.std.proofs.Common.{List, [], ◌∷◌, ◌++◌, Option, None, Some, arith}
+use Rattle.std.proofs.Common.{ℕ, ◌≡◌, inl, refl, true, List, [], ◌∷◌, ◌++◌, None, Some, arith}
 use Rattle.std.specs.Prelude.{Ok}
 use Rattle.std.specs.Option.{option_to_list}
 use Rattle.fed_types.specs.declared.bag_id.BagId.{BagId}
@@ -13,14 +12,14 @@ use Rattle.records.specs.declared.record.Record.{Record}
 use Rattle.proposer.specs.VolatileStates.{VolatileState}
 use Rattle.site.specs.Calls as calls
 use Rattle.site.specs.Calls.{Input, effect_of}
-use Rattle.site.specs.Effects.{Effect, Send}
+use Rattle.site.specs.Effects.{Effect}
 use Rattle.schedule.specs.declared.fate.Fate.TheVariants.{Whole}
 use Rattle.lines.specs.declared.notice.Notice.{Notice}
 use Rattle.lines.specs.declared.notice.Notice.TheVariants.{Learned, Registered}
 use Rattle.world_law.specs.Laws.{notices_of, OnRecord}
-use Rattle.world_law.specs.Networks.{Network, Event, Deposit, Propose, Deliver, Mode, Up}
+use Rattle.world_law.specs.Networks.{Network, Event, Deposit, Propose, Deliver, Up}
 use Rattle.world_law.specs.Networks.{new_site, new_network, outcome, happens, run, happening}
-use Rattle.world_law.specs.Networks.{goes_on, nothing, reaches, takes, arrives, datagram_at}
+use Rattle.world_law.specs.Networks.{goes_on, takes, datagram_at}
 use Rattle.world_law.specs.Networks as networks
 use Rattle.world_law.specs.WellFormed.{AreWellFormedEvents}
 use Rattle.audit.specs.Evidence.{SiteRecord, network_of}
@@ -36,7 +35,7 @@ use Rattle.serving_law.proofs.Agreed.{starts, ends, hears, turns, may, prints, a
 use Rattle.serving_law.proofs.AgreedMessages.{is_slot, is_bag, voted}
 use Rattle.serving_law.proofs.AgreedTurns.{Turn, Asked1, Asked2, Promised1, Promised2, Votes1}
 use Rattle.serving_law.proofs.AgreedTurns.{Votes2, Hears11, Hears12, Hears31, Hears32, answers}
-use Rattle.serving_law.proofs.Agreement.{three_are, m, r, to_site, step_of, comes_to}
+use Rattle.serving_law.proofs.Agreement.{three_are, Hearing, m, r, to_site, step_of, comes_to}
 use Rattle.serving_law.proofs.DiskJournals.{are_like_cells}
 use Rattle.serving_law.proofs.Restarted.{one, again, starts_again, five, are_five, its_rows}
 use Rattle.serving_law.proofs.Sites.{volatile_of}
@@ -62,16 +61,11 @@ ran_none : (w : Network) → Ran w [] w []
 unfolding run notices_of
 ran_none w = record { ran = refl; said_is = refl }
 
-ran_more : (w : Network) (e : Event) (events : List Event) (h : networks.Happening) (x : Network)
-    (said : List Notice) → happens q w e ≡ h → Ran h.network events x said
+ran_more : {w : Network} {e : Event} {events : List Event} {h : networks.Happening} {x : Network}
+    {said : List Notice} → happens q w e ≡ h → Ran h.network events x said
     → Ran w (e ∷ events) x (option_to_list h.notice ++ said)
 unfolding run notices_of
-ran_more w e events h x said is rest = record {
-  ran = ap (λ (g : networks.Happening). run q g.network events) is ∙ rest.ran;
-  said_is =
-      ap (λ (g : networks.Happening). option_to_list g.notice ++ notices_of q g.network events) is
-      ∙ ap (λ (ns : List Notice). option_to_list h.notice ++ ns) rest.said_is;
-}
+ran_more is rest = record { ran = rw is rest.ran; said_is = rw (is, rest.said_is) }
 
 -- a member that is up does all that comes of an input
 abbrev does : Network → (n : ℕ) → Input → Effect → networks.Happening
@@ -82,16 +76,10 @@ does_whole : (w : Network) (n : ℕ) (volatile : VolatileState) (input : Input) 
     → effect_of q n (w.sites n).records volatile input ≡ e
     → takes q w n input Whole ≡ does w n input e
 unfolding outcome
-does_whole w n volatile input e member up is =
-    ap (λ t. cond t (reaches q w n (w.sites n).mode input Whole) (nothing w)) member
-    ∙ ap (λ (mode : Mode). reaches q w n mode input Whole) up
-    ∙ ap (λ (e : Effect). does w n input e) is
+does_whole w n volatile input e member up is = rw (member, up, is)
 
 module _ (bag : BagId) (request : Request 7 a bag) where
   -- ---- the networks of the run
-
-  abbrev volatile : VolatileState
-  volatile = volatile_of [] None
 
   abbrev deposits : Event
   deposits = Deposit 1 a (Ok bag) Whole
@@ -103,31 +91,24 @@ module _ (bag : BagId) (request : Request 7 a bag) where
   h2 = does h1.network 1 (calls.Proposes a) (preparing bag request)
 
   -- a site hears a message
-  abbrev hearing : Network → Turn → networks.Happening
-  hearing w turn =
-      does w (hears bag request turn).n (calls.Arrives (Some (m (hears bag request turn).body)))
-      (comes_to (hears bag request turn))
+  module _ (w : Network) (turn : Turn) where
+    abbrev it : Hearing
+    it = hears bag request turn
 
-  hears_whole : (turn : Turn) (w : Network) (number : ℕ)
-      → datagram_at number w.sent
-      ≡ Some (to_site (hears bag request turn).n (hears bag request turn).body)
-      → is_in (members_of three) (hears bag request turn).n ≡ true
-      → (w.sites (hears bag request turn).n).mode
-      ≡ Up (volatile_of (hears bag request turn).old.bs (hears bag request turn).old.current)
-      → (w.sites (hears bag request turn).n).records
-      ≡ records_of a (hears bag request turn).old.es
-      → happens q w (Deliver number Whole) ≡ hearing w turn
-  unfolding happens
-  hears_whole turn w number at member up records =
-      ap (λ (o : Option Send). arrives q w o Whole) at
-      ∙ does_whole w (hears bag request turn).n
-      (volatile_of (hears bag request turn).old.bs (hears bag request turn).old.current)
-      (calls.Arrives (Some (m (hears bag request turn).body)))
-      (comes_to (hears bag request turn)) member up
-      (ap (λ (rs : List Record). effect_of q (hears bag request turn).n rs
-      (volatile_of (hears bag request turn).old.bs (hears bag request turn).old.current)
-      (calls.Arrives (Some (m (hears bag request turn).body)))) records
-      ∙ answers bag request turn)
+    abbrev volatile : VolatileState
+    volatile = volatile_of it.old.bs it.old.current
+
+    abbrev hearing : networks.Happening
+    hearing = does w it.n (calls.Arrives (Some (m it.body))) (comes_to it)
+
+    hears_whole : (number : ℕ) → datagram_at number w.sent ≡ Some (to_site it.n it.body)
+        → is_in (members_of three) it.n ≡ true → (w.sites it.n).mode ≡ Up volatile
+        → (w.sites it.n).records ≡ records_of a it.old.es
+        → happens q w (Deliver number Whole) ≡ hearing
+    unfolding happens
+    hears_whole number sent member up records =
+        rw sent (does_whole w it.n volatile (calls.Arrives (Some (m it.body))) (comes_to it) member
+        up (rw records (answers bag request turn)))
 
   abbrev w3 : Network
   w3 = (hearing h2.network Asked1).network
@@ -167,27 +148,22 @@ module _ (bag : BagId) (request : Request 7 a bag) where
   delivered : Ran h2.network delivers x (Learned 1 a bag ∷ [])
   unfolding new_network new_site is_in sites_to
   delivered =
-      ran_more h2.network _ _ (hearing h2.network Asked1) x _
-      (hears_whole Asked1 h2.network 1 refl refl refl refl) (
-      ran_more w3 _ _ (hearing w3 Asked2) x _ (hears_whole Asked2 w3 2 refl refl refl refl) (
-      ran_more w4 _ _ (hearing w4 Promised1) x _ (hears_whole Promised1 w4 4 refl refl refl refl) (
-      ran_more w5 _ _ (hearing w5 Promised2) x _ (hears_whole Promised2 w5 5 refl refl refl refl) (
-      ran_more w6 _ _ (hearing w6 Votes1) x _ (hears_whole Votes1 w6 6 refl refl refl refl) (
-      ran_more w7 _ _ (hearing w7 Votes2) x _ (hears_whole Votes2 w7 7 refl refl refl refl) (
-      ran_more w8 _ _ (hearing w8 Hears11) x _ (hears_whole Hears11 w8 9 refl refl refl refl) (
-      ran_more w9 _ _ (hearing w9 Hears12) x _ (hears_whole Hears12 w9 12 refl refl refl refl) (
-      ran_none x))))))))
+      ran_more (hears_whole h2.network Asked1 1 refl refl refl refl) (
+      ran_more (hears_whole w3 Asked2 2 refl refl refl refl) (
+      ran_more (hears_whole w4 Promised1 4 refl refl refl refl) (
+      ran_more (hears_whole w5 Promised2 5 refl refl refl refl) (
+      ran_more (hears_whole w6 Votes1 6 refl refl refl refl) (
+      ran_more (hears_whole w7 Votes2 7 refl refl refl refl) (
+      ran_more (hears_whole w8 Hears11 9 refl refl refl refl) (
+      ran_more (hears_whole w9 Hears12 12 refl refl refl refl) (ran_none x))))))))
 
   ran : Ran new_network events x said
   unfolding new_network new_site is_in sites_to happens
   ran =
-      ran_more new_network _ _ h1 x _
-      (does_whole new_network 1 volatile (calls.Deposits a (Ok bag)) (registering bag request) refl
-      refl (on_deposit_is bag request)) (
-      ran_more h1.network _ _ h2 x _
-      (does_whole h1.network 1 volatile (calls.Proposes a) (preparing bag request) refl refl
-      (proposes_it bag request))
-      delivered)
+      ran_more (does_whole new_network 1 (volatile_of [] None) (calls.Deposits a (Ok bag))
+      (registering bag request) refl refl (on_deposit_is bag request)) (
+      ran_more (does_whole h1.network 1 (volatile_of [] None) (calls.Proposes a)
+      (preparing bag request) refl refl (proposes_it bag request)) delivered)
 
   -- ---- what it leaves
 
@@ -196,22 +172,20 @@ module _ (bag : BagId) (request : Request 7 a bag) where
 
   -- a fact of the explicit network is one of the run's
   records_at : (n : ℕ) → (r : Record) → Has r (x.sites n).records → Has r (end.sites n).records
-  records_at n r has = subst (λ (w : Network). Has r (w.sites n).records) (sym ran.ran) has
+  records_at n r has = rw ran.ran has
 
   was_said : Has (Learned 1 a bag) (said_in three events)
-  was_said =
-      subst (λ (ns : List Notice). Has (Learned 1 a bag) ns) (sym ran.said_is) (there (here refl))
+  was_said = rw ran.said_is (there (here refl))
 
   is_known : KnownOnRecord {C = Disk} (left_by three events) 1 a bag
   unfolding new_network new_site
-  is_known =
-      records_at 1 (r (entry.Known bag)) (at_index 4 (x.sites 1).records _ refl)
-
-  all_formed : AreWellFormedEvents delivers
-  all_formed = (tt, (tt, (tt, (tt, (tt, (tt, (tt, (tt, tt))))))))
+  is_known = records_at 1 (r (entry.Known bag)) (at_index 4 (x.sites 1).records _ refl)
 
   formed : AreWellFormedEvents events
-  formed = ((is_slot bag request, is_bag bag request), (is_slot bag request, all_formed))
+  formed = (
+    (is_slot bag request, is_bag bag request),
+    (is_slot bag request, (tt, (tt, (tt, (tt, (tt, (tt, (tt, (tt, tt))))))))),
+  )
 
   -- ---- the history
 
@@ -231,11 +205,7 @@ module _ (bag : BagId) (request : Request 7 a bag) where
       ends bag request _))))
 
   after_run : IsHistoryAfter device three events history
-  after_run = record {
-    formed = formed;
-    happens =
-        subst (λ (w : Network). MayAll device three (carried 7 w) history) (sym ran.ran) may_go_on;
-  }
+  after_run = record { formed = formed; happens = rw ran.ran may_go_on }
 
   refines : Refines device three events history
   refines =
@@ -260,21 +230,17 @@ module _ (bag : BagId) (request : Request 7 a bag) where
   are : AreOfCells three events history given
   unfolding new_network new_site
   are s (here e) =
-      subst (λ (s : SiteRecord). WasKept three events history s) e
-      (of_cell (voted_at 1) (records_at 1 (r (voted bag))
+      rw (← e) (of_cell (voted_at 1) (records_at 1 (r (voted bag))
       (at_index 3 (x.sites 1).records _ refl)))
   are s (there (here e)) =
-      subst (λ (s : SiteRecord). WasKept three events history s) e
-      (of_cell (voted_at 2) (records_at 2 (r (voted bag))
+      rw (← e) (of_cell (voted_at 2) (records_at 2 (r (voted bag))
       (at_index 1 (x.sites 2).records _ refl)))
   are s (there (there none)) = absurd (has_none none)
 
   voted_on : (n : ℕ) → Has n (1 ∷ 2 ∷ []) → OnRecord (network_of given) n a (voted bag)
   unfolding network_of
-  voted_on n (here e) =
-      subst (λ (n : ℕ). OnRecord (network_of given) n a (voted bag)) e (here refl)
-  voted_on n (there (here e)) =
-      subst (λ (n : ℕ). OnRecord (network_of given) n a (voted bag)) e (here refl)
+  voted_on n (here e) = rw (← e) (here refl)
+  voted_on n (there (here e)) = rw (← e) (here refl)
   voted_on n (there (there none)) = absurd (has_none none)
 
   shown : ShowChosen q given a bag

@@ -1,5 +1,5 @@
 -- A history in which the register of a slot is open at first, and then decided.
-use Rattle.std.proofs.Common.{◌≡◌, inl, refl, ap, subst, List, [], ◌∷◌, ◌++◌}
+use Rattle.std.proofs.Common.{◌≡◌, inl, refl, List, [], ◌∷◌, ◌++◌}
 use Rattle.fed_types.specs.declared.bag_id.BagId.{BagId}
 use Rattle.fed_types.specs.Lists.{Has, here, there}
 use Rattle.fed_types.specs.Laws.Lists.{has_none}
@@ -30,18 +30,10 @@ record Placed (h : Happening Disk) (history : List (Happening Disk)) : Type 0 wh
 placed : (h : Happening Disk) (history : List (Happening Disk)) → Has h history
     → Placed h history
 placed h [] has = absurd (has_none has)
-placed h (g ∷ history) (here is) = record {
-  before = [];
-  later = history;
-  split = ap (λ (k : Happening Disk). k ∷ history) is;
-}
+placed h (g ∷ history) (here is) = record { before = []; later = history; split = cc is }
 placed h (g ∷ history) (there has) =
     let p = placed h history has in
-    record {
-      before = g ∷ p.before;
-      later = p.later;
-      split = ap (λ (hs : List (Happening Disk)). g ∷ hs) p.split;
-    }
+    record { before = g ∷ p.before; later = p.later; split = cc p.split }
 
 nothing_decided : (bag : BagId) → IsDecided {C = Disk} three (now three [] []) a bag → ⊥
 unfolding after_all run new_network new_site
@@ -64,8 +56,7 @@ module _ (bag : BagId) (request : Request three.federation a bag) where
 
   happens : IsHistoryAfter device three [] (place.before ++ h ∷ place.later)
   happens =
-      subst (λ (hs : List (Happening Disk)). IsHistoryAfter device three [] hs) place.split
-      (new_cells_are_left_by_none device three agree.history agree.happens)
+      rw place.split at (new_cells_are_left_by_none device three agree.history agree.happens)
 
   refines : Refines device three [] (place.before ++ h ∷ place.later)
   refines =

@@ -1,7 +1,6 @@
 -- Two turns that overlap, computed.
-use Rattle.std.proofs.Common.{ℕ, ◌≡◌, refl, ◌==◌, Bool, true, false, cond}
-use Rattle.std.proofs.Common.{List, [], ◌∷◌, ◌++◌, None, arith}
-use Rattle.std.proofs.lemmas.Bool.Decides.{Decides-eqb}
+use Rattle.std.proofs.Common.{ℕ, inl, inr, refl, ◌==◌, List, [], ◌∷◌, ◌++◌, None, arith}
+use Rattle.std.proofs.lemmas.Bool.{cases_Bool, eqb-true}
 use Rattle.fed_types.specs.declared.bag_id.BagId.{BagId}
 use Rattle.fed_types.specs.Lists.{Has, here, there}
 use Rattle.fed_types.specs.Sites.{members_of}
@@ -11,14 +10,12 @@ use Rattle.udp_site.specs.Traffic.{Post}
 use Rattle.serving_law.specs.Disks.{Disk, device}
 use Rattle.serving_law.specs.Examples.{Request, reply_to}
 use Rattle.serving_law.specs.ExamplesAgreed.{three, a, ballot}
-use Rattle.serving_law.specs.Federations.{Down, Happening, Turns}
-use Rattle.serving_law.specs.Federations.{new_federation}
-use Rattle.serving_law.specs.Rules.{Takes}
+use Rattle.serving_law.specs.Federations.{Down, Federation, Happening, Turns, new_federation}
 use Rattle.serving_law.proofs.Agreed.{asked, has_deposit, deposit_step, deposits, propose_step}
 use Rattle.serving_law.proofs.Agreed.{proposes, started, none_heard, member, hears, turns}
 use Rattle.serving_law.proofs.AgreedMessages.{come}
 use Rattle.serving_law.proofs.AgreedTurns.{Asked2, answers, stands, fits}
-use Rattle.serving_law.proofs.Agreement.{three_are, m, step_of, serves, takes}
+use Rattle.serving_law.proofs.Agreement.{three_are, m, Hearing, step_of, serves, takes}
 use Rattle.serving_law.proofs.NewSites.{may_start}
 use Rattle.serving_law.proofs.Tables.{tables}
 use Rattle.register_law.specs.Overlaps.{Moment, Begins, HandsOut, begun, at_member}
@@ -33,6 +30,9 @@ module _ (bag : BagId) (request : Request 7 a bag) where
 
   abbrev proposing : Happening Disk
   proposing = Turns 1 (propose_step bag request) 3 0
+
+  abbrev its : Hearing
+  its = hears bag request Asked2
 
   abbrev promising : Happening Disk
   promising = turns bag request Asked2 1 0
@@ -61,19 +61,6 @@ module _ (bag : BagId) (request : Request 7 a bag) where
 
   -- ---- time
 
-  -- site 1 still hands out, and site 2 has begun a turn
-  abbrev begun_then : List (Happening Disk)
-  begun_then =
-      promising ∷ proposing ∷ depositing ∷ started bag request 2 ∷ started bag request 1 ∷ []
-
-  ends_in_time : AreInTime three (answer ∷ prepare 1 ∷ prepare 2 ∷ []) begun_then
-      (HandsOut promise ∷ HandsOut (prepare 3) ∷ [])
-  unfolding AreInTime
-  ends_in_time = (
-    (promising, here refl, here refl),
-    ((proposing, there (here refl), there (there (here refl))), tt),
-  )
-
   goes_in_time : AreInTime three (answer ∷ [])
       (depositing ∷ started bag request 2 ∷ started bag request 1 ∷ []) overlapped
   unfolding AreInTime
@@ -84,11 +71,11 @@ module _ (bag : BagId) (request : Request 7 a bag) where
       (
         (proposing, here refl, there (here refl)),
         (
+          ((fits bag request Asked2).fits, λ message e is. (2, there (there (here refl)))),
           (
-            (fits bag request Asked2).fits,
-            λ message e is. (2, there (there (here refl))),
+            (promising, here refl, here refl),
+            ((proposing, there (here refl), there (there (here refl))), tt),
           ),
-          ends_in_time,
         ),
       ),
     ),
@@ -96,13 +83,19 @@ module _ (bag : BagId) (request : Request 7 a bag) where
 
   in_time : AreInTime three at_first.handed [] moments
   unfolding AreInTime new_federation
-  in_time =
-      (tt, (tt, (come bag request, ((depositing, here refl, here refl), goes_in_time))))
+  in_time = (tt, (tt, (come bag request, ((depositing, here refl, here refl), goes_in_time))))
 
   -- ---- the accounts
 
   one_is : Has 1 (members_of three)
   one_is = member bag request 1 (omega arith) (omega arith)
+
+  two_is : Has 2 (members_of three)
+  two_is = member bag request 2 (omega arith) (omega arith)
+
+  -- where it was handed out, site 2 may take what it hears
+  abbrev handed_then : Federation Disk
+  handed_then = record { members = at_first.members; handed = prepare 2 ∷ [] }
 
   starts : (n : ℕ) → Has n (members_of three)
       → MayHappenTo device three (Down []) (started bag request n)
@@ -132,63 +125,36 @@ module _ (bag : BagId) (request : Request 7 a bag) where
     ),
   )
 
-  -- where it was handed out, site 2 may take it
-  two_takes : Takes device three
-      (record { members = at_first.members; handed = prepare 2 ∷ [] })
-      (serves 2 (hears bag request Asked2).old) (step_of (hears bag request Asked2))
-  two_takes =
-      takes (hears bag request Asked2) (fits bag request Asked2) (answers bag request Asked2)
-      (stands bag request Asked2) _ 2 (here refl)
-
   account_2 : IsAccount device three (Down []) (started bag request 2 ∷ promising ∷ [])
   unfolding IsAccount
   account_2 = (
-    starts 2 (member bag request 2 (omega arith) (omega arith)),
+    starts 2 two_is,
     (
       λ f is may. (
-        serves 2 (hears bag request Asked2).old,
-        (member bag request 2 (omega arith) (omega arith), is),
-        record { may_come = may; comes = two_takes.comes },
+        serves 2 its.old,
+        (two_is, is),
+        record {
+          may_come = may;
+          comes =
+              (takes its (fits bag request Asked2) (answers bag request Asked2)
+              (stands bag request Asked2) handed_then 2 (here refl)).comes;
+        },
         refl,
       ),
       tt,
     ),
   )
 
-  -- what happens at a member that is site 1 or not, and site 2 or not
-  abbrev with_promise : (two : Bool) → List (Happening Disk)
-  with_promise two = cond two (promising ∷ []) []
-
-  abbrev with_proposal : (one two : Bool) → List (Happening Disk)
-  with_proposal one two = cond one (proposing ∷ with_promise two) (with_promise two)
-
-  abbrev with_deposit : (one two : Bool) → List (Happening Disk)
-  with_deposit one two = cond one (depositing ∷ with_proposal one two) (with_proposal one two)
-
-  abbrev with_start : (one two : Bool) → List (Happening Disk)
-  with_start one two =
-      cond two (started bag request 2 ∷ with_deposit one two) (with_deposit one two)
-
-  abbrev happens_at : (one two : Bool) → List (Happening Disk)
-  happens_at one two =
-      cond one (started bag request 1 ∷ with_start one two) (with_start one two)
-
-  account_of : (one two : Bool) → (one ≡ true → two ≡ true → ⊥)
-      → IsAccount device three (Down []) (happens_at one two)
-  unfolding IsAccount
-  account_of true true not_both = absurd (not_both refl refl)
-  account_of true false not_both = account_1
-  account_of false true not_both = account_2
-  account_of false false not_both = tt
-
   accounts : (n : ℕ)
       → IsAccount device three (at_first.members n) (at_member n (begun moments))
-  unfolding at_member begun new_federation
-  accounts n = account_of (n == 1) (n == 2) not_both
-    where
-      not_both : (n == 1) ≡ true → (n == 2) ≡ true → ⊥
-      not_both e f =
-          absurd (omega (arith, (Decides-eqb n 1).0 e, (Decides-eqb n 2).0 f))
+  unfolding IsAccount at_member begun new_federation
+  accounts n = elim (cases_Bool (n == 1)) [
+    | inl one ↦ rw (eqb-true n 1 one) account_1
+    | inr not_one ↦ elim (cases_Bool (n == 2)) [
+      | inl two ↦ rw (eqb-true n 2 two) account_2
+      | inr not_two ↦ rw (not_one, not_two) tt
+    ]
+  ]
 
   pub overlap : Overlap bag
   overlap = record {
@@ -196,7 +162,7 @@ module _ (bag : BagId) (request : Request 7 a bag) where
     proposing = propose_step bag request;
     to_one = prepare 1;
     to_two = prepare 2;
-    promising = step_of (hears bag request Asked2);
+    promising = step_of its;
     reply = promise;
     to_three = prepare 3;
     posts = refl;

@@ -1,23 +1,18 @@
 -- Accounts of members, put together in the order in which their happenings begin.
-use Rattle.std.proofs.Common.{ℕ, ◌≡◌, inl, inr, refl, sym, subst, ◌==◌, Bool, true, false, cond}
-use Rattle.std.proofs.Common.{List, [], ◌∷◌, ◌++◌, Option, Some, None}
+use Rattle.std.proofs.Common.{ℕ, ◌≡◌, inl, inr, refl, ◌==◌, Bool, true, false, cond, eq-eqb, List}
+use Rattle.std.proofs.Common.{[], ◌∷◌, ◌++◌, Option, Some}
 use Rattle.std.proofs.lemmas.Bool.{eqb-true}
-use Rattle.std.proofs.lemmas.Bool.Decides.{Decides-eqb}
 use Rattle.std.specs.Prelude.{IfSome}
 use Rattle.fed_types.specs.Lists.{Has, here, there}
 use Rattle.fed_types.specs.Sites.{Membership}
 use Rattle.fed_types.specs.Laws.Lists.{has_none, has_left, has_right, has_cases, has_one}
 use Rattle.cell_device.specs.Devices.{Device}
-use Rattle.udp_site.specs.Traffic.{Post, Taken, Nothing, From}
-use Rattle.serving_law.specs.Federations.{Member, Federation, Happening, after}
-use Rattle.serving_law.specs.Federations.{Turns, Fails, Dies, Ends, Renews, Starts}
-use Rattle.serving_law.specs.Rules.{MayCome, May, MayAll}
+use Rattle.udp_site.specs.Traffic.{Post, Taken, From}
+use Rattle.serving_law.specs.Federations.{Federation, Happening, Turns, after}
+use Rattle.serving_law.specs.Rules.{MayCome, MayAll}
 use Rattle.register_law.specs.Overlaps.{member_at, taken_in, handed_out, own_after, at_member}
 use Rattle.register_law.specs.Overlaps.{IsAccount, Moment, Begins, HandsOut, begun, AreInTime}
 use Rattle.register_law.specs.Overlaps.{OverlapsAreHistories}
-
-at_itself : (n : ℕ) → (n == n) ≡ true
-at_itself n = (Decides-eqb n n).1 refl
 
 -- all of these were handed out
 abbrev AreAmong : List Post → List Post → Type 0
@@ -27,10 +22,9 @@ AreAmong some all = (post : Post) → Has post some → Has post all
 more_may_come : (members : Membership) (some all : List Post) → AreAmong some all
     → (o : Option Taken)
     → IfSome o (MayCome members some) → IfSome o (MayCome members all)
-more_may_come members some all among None may = tt
-more_may_come members some all among (Some Nothing) may = tt
 more_may_come members some all among (Some (From port bytes)) (are_bytes, handed) =
     (are_bytes, λ message e is. let w = handed message e is in (w.0, among (w.0, bytes) w.1))
+more_may_come members some all among _ may = tt
 
 module _ {C : Type 0} (device : C → Device) (members : Membership) where
   -- ---- what a happening makes of a federation
@@ -39,55 +33,29 @@ module _ {C : Type 0} (device : C → Device) (members : Membership) where
       → (after f h).members n
       ≡ cond (n == member_at h) (own_after (f.members (member_at h)) h) (f.members n)
   own_now f (Turns n step handed written) k = refl
-  own_now f (Fails n step handed written records) k = refl
-  own_now f (Dies n step records) k = refl
-  own_now f (Ends n records) k = refl
-  own_now f (Renews n) k = refl
-  own_now f (Starts n cell site) k = refl
+  own_now f _ k = refl
 
   handed_now : (f : Federation C) (h : Happening C)
       → (after f h).handed ≡ f.handed ++ handed_out h
   handed_now f (Turns n step handed written) = refl
-  handed_now f (Fails n step handed written records) = refl
-  handed_now f (Dies n step records) = refl
-  handed_now f (Ends n records) = refl
-  handed_now f (Renews n) = refl
-  handed_now f (Starts n cell site) = refl
+  handed_now f _ = refl
 
   module _ (f : Federation C) (h : Happening C) where
     was_handed : AreAmong f.handed (after f h).handed
-    was_handed post has =
-        subst (λ (posts : List Post). Has post posts) (sym (handed_now f h))
-        (has_left (handed_out h) has)
+    was_handed post has = rw (handed_now f h) (has_left (handed_out h) has)
 
     is_handed : AreAmong (handed_out h) (after f h).handed
-    is_handed post has =
-        subst (λ (posts : List Post). Has post posts) (sym (handed_now f h))
-        (has_right f.handed has)
+    is_handed post has = rw (handed_now f h) (has_right f.handed has)
 
-    module _ (history : List (Happening C)) where
-      -- the member's account goes on after it, and the others' accounts stay
-      goes_on : (n : ℕ) (t : Bool) → (t ≡ true → n ≡ member_at h)
-          → IsAccount device members (f.members n)
-          (cond t (h ∷ at_member n history) (at_member n history))
-          → IsAccount device members
-          (cond t (own_after (f.members (member_at h)) h) (f.members n)) (at_member n history)
-      unfolding IsAccount
-      goes_on n true same account =
-          subst
-          (λ (k : ℕ). IsAccount device members (own_after (f.members k) h) (at_member n history))
-          (same refl) account.1
-      goes_on n false same account = account
-
-      -- and it may happen, where what it takes in may come
-      may_happen : (t : Bool) → t ≡ true
-          → IsAccount device members (f.members (member_at h))
-          (cond t (h ∷ at_member (member_at h) history) (at_member (member_at h) history))
-          → IfSome (taken_in h) (MayCome members f.handed)
-          → May device members f h
-      unfolding IsAccount
-      may_happen true is account come = account.0 f refl come
-      may_happen false is account come = absurd (cc is)
+    -- the member's account goes on after it, and the others' accounts stay
+    goes_on : (history : List (Happening C)) (n : ℕ) (t : Bool) → (t ≡ true → n ≡ member_at h)
+        → IsAccount device members (f.members n)
+        (cond t (h ∷ at_member n history) (at_member n history))
+        → IsAccount device members
+        (cond t (own_after (f.members (member_at h)) h) (f.members n)) (at_member n history)
+    unfolding IsAccount
+    goes_on history n true same account = rw (← same refl) account.1
+    goes_on history n false same account = account
 
   -- ---- all of them
 
@@ -96,8 +64,7 @@ module _ {C : Type 0} (device : C → Device) (members : Membership) where
 
   one_more : (f : Federation C) (h : Happening C) (earlier : List (Happening C))
       → AreHanded earlier f.handed → AreHanded (h ∷ earlier) (after f h).handed
-  one_more f h earlier out g (here is) post has =
-      is_handed f h post (subst (λ (k : Happening C). Has post (handed_out k)) (sym is) has)
+  one_more f h earlier out g (here is) post has = is_handed f h post (rw (← is) at has)
   one_more f h earlier out g (there k) post has = was_handed f h post (out g k post has)
 
   all_may : (moments : List (Moment C)) (handed : List Post) (earlier : List (Happening C))
@@ -106,27 +73,23 @@ module _ {C : Type 0} (device : C → Device) (members : Membership) where
       → AreAmong handed f.handed → AreHanded earlier f.handed
       → AreInTime members handed earlier moments
       → MayAll device members f (begun moments)
-  unfolding MayAll AreInTime at_member begun
+  unfolding MayAll IsAccount AreInTime at_member begun
   all_may [] handed earlier f accounts among out in_time = tt
-  all_may (Begins h ∷ moments) handed earlier f accounts among out in_time = (
-    may_happen f h (begun moments) (member_at h == member_at h) (at_itself (member_at h))
-        (accounts (member_at h))
-        (more_may_come members handed f.handed among (taken_in h) in_time.0),
-    all_may moments handed (h ∷ earlier) (after f h)
-        (λ n.
-        subst (λ (m : Member C). IsAccount device members m (at_member n (begun moments)))
-        (sym (own_now f h n))
-        (goes_on f h (begun moments) n (n == member_at h) (eqb-true n (member_at h)) (accounts n)))
-        (λ post has. was_handed f h post (among post has))
-        (one_more f h earlier out)
-        in_time.1,
-  )
+  all_may (Begins h ∷ moments) handed earlier f accounts among out in_time =
+      let its = rw (eq-eqb (member_at h) (member_at h) refl) at (accounts (member_at h)) in (
+        its.0 f refl (more_may_come members handed f.handed among (taken_in h) in_time.0),
+        all_may moments handed (h ∷ earlier) (after f h)
+            (λ n. rw (own_now f h n)
+            (goes_on f h (begun moments) n _ (eqb-true n (member_at h)) (accounts n)))
+            (λ post has. was_handed f h post (among post has))
+            (one_more f h earlier out)
+            in_time.1,
+      )
   all_may (HandsOut post ∷ moments) handed earlier f accounts among out in_time =
       all_may moments (handed ++ post ∷ []) earlier f accounts
       (λ p has. elim (has_cases handed (post ∷ []) has) [
         | inl old ↦ among p old
-        | inr new ↦ out in_time.0.0 in_time.0.1 p
-            (subst (λ (p : Post). Has p (handed_out in_time.0.0)) (has_one new) in_time.0.2)
+        | inr new ↦ out in_time.0.0 in_time.0.1 p (rw (has_one new) at in_time.0.2)
       ])
       out in_time.1
 
