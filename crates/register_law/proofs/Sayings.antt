@@ -1,16 +1,14 @@
 -- What is sent in a run is for sites: no request of a client, and no reply to one.
-use Rattle.std.proofs.Common.{ℕ, Bool, true, false, cond}
-use Rattle.std.proofs.Common.{List, [], ◌∷◌, Option, None, Some}
+use Rattle.std.proofs.Common.{ℕ, inl, inr, List, [], ◌∷◌, Option, None, Some}
+use Rattle.std.proofs.lemmas.Bool.{cond_both}
 use Rattle.fed_types.specs.Lists.{is_in}
 use Rattle.fed_types.specs.Quorums.{QuorumSystem}
 use Rattle.fed_types.specs.Slots.{SlotName}
 use Rattle.fed_types.specs.Laws.Lists.{has_none, has_take, has_cases}
-use Rattle.std.proofs.Common.{inl, inr}
 use Rattle.records.specs.declared.record.Record.{Record}
 use Rattle.proposer.specs.VolatileStates.{new_volatile}
 use Rattle.site.specs.declared.fault.SiteFault.TheVariants as faults
-use Rattle.site.specs.Calls.{Input, Deposits, Proposes, Recovers, Asks, Arrives}
-use Rattle.site.specs.Calls.{effect_of}
+use Rattle.site.specs.Calls.{Input, Deposits, Proposes, Recovers, Asks, Arrives, effect_of}
 use Rattle.site.specs.Effects.{Effect, Send, refuses}
 use Rattle.schedule.specs.declared.fate.Fate.{Fate}
 use Rattle.schedule.specs.declared.fate.Fate.TheVariants.{Whole, StopsIn, StopsAfter, FailsIn}
@@ -18,8 +16,7 @@ use Rattle.world_law.specs.Networks.{Network, SiteState, SiteOutcome, Mode, Up, 
 use Rattle.world_law.specs.Networks.{Happening, outcome, step, nothing, happening, if_member}
 use Rattle.world_law.specs.Networks.{reaches, takes, replies, arrives, stops, starts, datagram_at}
 use Rattle.world_law.specs.Networks.{Event, Deposit, Propose, Recover, Query, Deliver, Raw, Stop}
-use Rattle.world_law.specs.Networks.{Start}
-use Rattle.world_law.specs.Networks.{goes_down, opened, new_network, happens, run}
+use Rattle.world_law.specs.Networks.{Start, goes_down, opened, new_network, happens, run}
 use Rattle.world_law.specs.Networks as networks
 use Rattle.serving_law.proofs.Spoken.{Speak, effect_speaks}
 
@@ -52,11 +49,8 @@ module _ (q : QuorumSystem) where
 
     member_speaks : (n : ℕ) (h : Happening) → AllSpeak h.network
         → AllSpeak (if_member q w n h).network
-    member_speaks n h out = go (is_in q.members n)
-      where
-        go : (t : Bool) → AllSpeak (cond t h (nothing w)).network
-        go true = out
-        go false = all
+    member_speaks n h out =
+        cond_both (is_in q.members n) h (nothing w) (λ h. AllSpeak h.network) (λ e. out) (λ e. all)
 
     reached_speaks : (n : ℕ) (mode : Mode) (input : Input) (fate : Fate)
         → AllSpeak (reaches q w n mode input fate).network
@@ -79,8 +73,7 @@ module _ (q : QuorumSystem) where
     replies_speaks : (n : ℕ) (mode : Mode) (slot : SlotName)
         → AllSpeak (replies w n mode slot).network
     replies_speaks n (Up volatile) slot = all
-    replies_speaks n NeedsOpening slot = all
-    replies_speaks n Down slot = all
+    replies_speaks n _ slot = all
 
     arrives_speaks : (o : Option Send) (fate : Fate) → AllSpeak (arrives q w o fate).network
     arrives_speaks None fate = all
@@ -88,13 +81,11 @@ module _ (q : QuorumSystem) where
 
     stops_speaks : (n : ℕ) (mode : Mode) → AllSpeak (stops w n mode).network
     stops_speaks n Down = all
-    stops_speaks n (Up volatile) = moved_speaks n (goes_down n (w.sites n) None []) nobody
-    stops_speaks n NeedsOpening = moved_speaks n (goes_down n (w.sites n) None []) nobody
+    stops_speaks n _ = moved_speaks n (goes_down n (w.sites n) None []) nobody
 
     starts_speaks : (n : ℕ) (mode : Mode) → AllSpeak (starts w n mode).network
     starts_speaks n (Up volatile) = all
-    starts_speaks n Down = moved_speaks n (opened n (w.sites n)) nobody
-    starts_speaks n NeedsOpening = moved_speaks n (opened n (w.sites n)) nobody
+    starts_speaks n _ = moved_speaks n (opened n (w.sites n)) nobody
 
     event_speaks : (e : Event) → AllSpeak (happens q w e).network
     unfolding happens

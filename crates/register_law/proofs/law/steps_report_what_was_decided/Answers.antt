@@ -1,6 +1,4 @@
-use Rattle.register_law.proofs.RegisterExamples.{steps_report_what_was_decided}
 use Rattle.register_law.proofs.law.steps_report_what_was_decided.Goals as goal
 
 pub returns : goal.returns
-returns g c = λ members events before h slot bag steps reports.
-    steps_report_what_was_decided members events before h slot bag steps reports
+returns g c = λ members events before h slot bag steps reports. steps.reports slot bag reports
