@@ -1,12 +1,10 @@
 -- What a call does to a book whose records wait, it does to one on a disk of which all is known.
-use Rattle.std.proofs.Common.{◌≡◌, inl, inr, ℕ, Bool, true, false, List, [], ◌∷◌}
-use Rattle.std.proofs.Common.{◌++◌, Option, Some, None, Result, Ok, Err, refl, sym, ap, subst}
-use Rattle.std.proofs.Common.{◌∙◌, le_refl}
+use Rattle.std.proofs.Common.{◌≡◌, inl, inr, true, false, List, [], ◌∷◌, ◌++◌, Option, Some, None}
+use Rattle.std.proofs.Common.{Result, Ok, Err, refl, ap, ◌∙◌, le_refl}
 use Rattle.std.specs.Prelude.{IsErrOf}
 use Rattle.fed_types.specs.Sites.{AreWeights}
 use Rattle.records.specs.declared.owner.Owner.{Owner}
 use Rattle.records.specs.declared.record.Record.{Record}
-use Rattle.records.specs.Journals.{DecodesTo}
 use Rattle.records.specs.Records.{IsRecord, AreRecords}
 use Rattle.book.specs.declared.fault.CommitFault.{CommitFault}
 use Rattle.book.specs.declared.fault.CommitFault.TheVariants as commits
@@ -34,15 +32,7 @@ on_book b = record {
 -- so it is, where it needs no opening
 pub on_open : (b : OpenBook Waiting) (owner : Owner) (records : List Record) → b.owner ≡ owner
     → b.records ≡ records → b.needs_opening ≡ false → holds owner records ≡ on_book b
-on_open b owner records is are opened =
-    ap (λ (o : Owner). holds o records) (sym is)
-    ∙ (ap (λ (rs : List Record). holds b.owner rs) (sym are)
-    ∙ ap (λ (n : Bool). record {
-      cell = Holds b.owner b.records;
-      records = b.records;
-      needs_opening = n;
-      owner = b.owner;
-    }) (sym opened))
+on_open b owner records is are opened = rw (is, are, opened)
 
 -- the records before the last, and the last
 split : (rs : List Record) (r : Record) → AreRecords (rs ++ r ∷ []) → AreRecords rs × IsRecord r
@@ -63,8 +53,7 @@ refused owner weights records are r = record {
     later = le_refl _;
     each = λ c left.
         let kept = are_like_cells.only_now (Holds owner records) c left in
-        inl (subst (λ (b : List ℕ). DecodesTo owner b (Ok records))
-        (sym (kept.1 ∙ keeps_same kept.0 _)) (says owner weights records are));
+        inl (rw (kept.1, keeps_same kept.0 _) (says owner weights records are));
     before = λ t c within left. inl left;
   };
   cause = record { later = le_refl _; failed = λ e. absurd (cc e); same = λ other. refl };
@@ -73,39 +62,40 @@ refused owner weights records are r = record {
   whose = refl;
 }
 
-module _ (old new : OpenBook Waiting) (opened : old.needs_opening ≡ false)
-    (weights : AreWeights old.owner.members.weights) (are : AreRecords new.records) where
+-- only a site that needs opening says so of its commit
+pub says_needs_open : (result : Result Answer SiteFault)
+    → commit_of result ≡ Err commits.NeedsOpen → IsErrOf result faults.NeedsOpen
+says_needs_open (Err faults.NeedsOpen) e = refl
+says_needs_open (Err faults.Device) e = absurd (cc e)
+says_needs_open _ e = absurd (cc e)
+
+-- it needs no opening, and its owner's weights are those of a membership
+pub record IsReady (b : OpenBook Waiting) : Type 0 where
+  pub opened : b.needs_opening ≡ false
+  pub weights : AreWeights b.owner.members.weights
+
+module _ (old new : OpenBook Waiting) (ready : IsReady old) (are : AreRecords new.records) where
+  old_is : holds old.owner old.records ≡ on_book old
+  old_is = on_open old old.owner old.records refl refl ready.opened
+
   committed : (r : Record) → Commits no_cell old r (Ok tt) new
       → Commits device (on_book old) r (Ok tt) (on_book new)
   committed r does =
-      let both = split old.records r (subst AreRecords does.committed.0 are) in
-      subst (λ (b : OpenBook Disk). Commits device b r (Ok tt) (on_book new))
-      (on_open old old.owner old.records refl refl opened)
-      (subst (λ (b : OpenBook Disk). Commits device (holds old.owner old.records) r (Ok tt) b)
-      (on_open new old.owner (old.records ++ r ∷ []) does.whose does.committed.0
-      does.committed.1)
-      (disks.commits old.owner weights old.records both.0 r both.1))
+      let both = split old.records r (rw does.committed.0 at are) in
+      let new_is = on_open new old.owner (old.records ++ r ∷ []) does.whose does.committed.0
+      does.committed.1 in
+      rw (← old_is, ← new_is) (disks.commits old.owner ready.weights old.records both.0 r both.1)
 
   unchanged : (r : Record) → Commits no_cell old r (Err commits.Memory) new
       → Commits device (on_book old) r (Err commits.Memory) (on_book new)
   unchanged r does =
       let same = does.memory refl in
-      subst (λ (b : OpenBook Disk). Commits device b r (Err commits.Memory) (on_book new))
-      (on_open old old.owner old.records refl refl opened)
-      (subst (λ (b : OpenBook Disk).
-      Commits device (holds old.owner old.records) r (Err commits.Memory) b)
-      (on_open new old.owner old.records does.whose same.records (same.opened ∙ opened))
-      (refused old.owner weights old.records (subst AreRecords same.records are) r))
+      let new_is = on_open new old.owner old.records does.whose same.records
+      (same.opened ∙ ready.opened) in
+      rw (← old_is, ← new_is)
+      (refused old.owner ready.weights old.records (rw same.records at are) r)
 
-  -- only a site that needs opening says so of its commit
-  says_needs_open : (result : Result Answer SiteFault) → commit_of result ≡ Err commits.NeedsOpen
-      → IsErrOf result faults.NeedsOpen
-  says_needs_open (Ok a) e = absurd (cc e)
-  says_needs_open (Err faults.Device) e = absurd (cc e)
-  says_needs_open (Err faults.NeedsOpen) e = refl
-  says_needs_open (Err fault) e = absurd (cc e)
-
-  -- nor does the cell of a book whose records wait ever fail
+  -- the cell of a book whose records wait never fails
   true_is_other : false ≡ true → ⊥
   true_is_other e = absurd (cc e)
 

@@ -1,6 +1,8 @@
 -- The first so many new records of a batch are those of its first turns.
 use Rattle.std.proofs.Common.{◌≡◌, inl, inr, ℕ, zero, suc, false, List, [], ◌∷◌, ◌++◌, take, Option}
-use Rattle.std.proofs.Common.{Result, refl, sym, ap, subst, ◌∙◌, append-nil, append_assoc}
+use Rattle.std.proofs.Common.{Result, refl, sym, ◌∙◌, append-nil, append_assoc}
+use Rattle.std.proofs.Math.Seq.{take-nil}
+use Rattle.std.proofs.lemmas.List.{append_cancel_left}
 use Rattle.bag_tree.specs.declared.fault.TreeFault.{TreeFault}
 use Rattle.bag_tree.specs.Facts.{TreeFacts}
 use Rattle.records.specs.declared.record.Record.{Record}
@@ -13,18 +15,6 @@ use Rattle.udp_site.specs.Served.{Turned}
 use Rattle.udp_site.specs.BatchTurns.{Follow}
 use Rattle.udp_site.proofs.WaitingTurns.{followed, followed_by}
 use Rattle.batch_law.proofs.OneRecord.{OneMore, turned}
-
--- what comes after the same is the same
-same_rest : (xs ys zs : List Record) → xs ++ ys ≡ xs ++ zs → ys ≡ zs
-same_rest [] ys zs e = e
-same_rest (x ∷ xs) ys zs e = same_rest xs ys zs (rest x (xs ++ ys) (xs ++ zs) e)
-  where
-    rest : (r : Record) (us vs : List Record) → r ∷ us ≡ r ∷ vs → us ≡ vs
-    rest r us vs is = cc
-
-take_none : (n : ℕ) → take {A = Record} n [] ≡ []
-take_none zero = refl
-take_none (suc n) = refl
 
 module _ (addresses : List ℕ) (gives : Option (List ℕ → Result TreeFacts TreeFault)) where
   abbrev Leads : (old : Serving Waiting) → List Turned → (next : Serving Waiting) → Type 0
@@ -47,16 +37,13 @@ module _ (addresses : List ℕ) (gives : Option (List ℕ → Result TreeFacts T
     old,
     refl,
     λ new are.
-        let none : new ≡ [] = same_rest old.site.book.records new []
-        (sym are ∙ (ap (λ (s : Serving Waiting). s.site.book.records) (sym follow)
-        ∙ sym (append-nil old.site.book.records))) in
-        sym (ap (λ (l : List Record). old.site.book.records ++ take k l) none
-        ∙ (ap (λ (l : List Record). old.site.book.records ++ l) (take_none k)
-        ∙ append-nil old.site.book.records)),
+        let none : new ≡ [] = append_cancel_left old.site.book.records new []
+        (cc (are, follow, append-nil old.site.book.records)) in
+        rw (none, take-nil, append-nil),
   )
   firsts (turn ∷ turns) old next k opened (mid, comes, follow) =
       go (λ m. firsts turns mid next m open_mid follow) k
-      (turned addresses mid turn.done gives old opened
+      (turned addresses gives old mid turn.done opened
       (request_of (members old).federation turn.took) comes)
     where
       first_grows : Grows old.site.book mid.site.book
@@ -76,12 +63,10 @@ module _ (addresses : List ℕ) (gives : Option (List ℕ → Result TreeFacts T
           let rest = those n in (
             turn ∷ rest.0,
             rest.1,
-            ap (λ (ts : List Turned). turn ∷ ts) rest.2,
+            cc rest.2,
             rest.3,
             (mid, comes, rest.4),
-            λ new are.
-                subst (λ (l : List Record). rest.3.site.book.records ≡ l ++ take n new) same
-                (rest.5 new (are ∙ ap (λ (l : List Record). l ++ new) (sym same))),
+            λ new are. rw (← same) (rest.5 new (rw same are)),
           )
       go those zero (inr one) = (
         [],
@@ -95,19 +80,18 @@ module _ (addresses : List ℕ) (gives : Option (List ℕ → Result TreeFacts T
           let rest = those n in (
             turn ∷ rest.0,
             rest.1,
-            ap (λ (ts : List Turned). turn ∷ ts) rest.2,
+            cc rest.2,
             rest.3,
             (mid, comes, rest.4),
             λ new are.
                 let more = later_grows.more in
-                let all : next.site.book.records ≡ old.site.book.records ++ (r ∷ more) =
-                later_grows.records
-                ∙ (ap (λ (l : List Record). l ++ more) is
-                ∙ append_assoc old.site.book.records (r ∷ []) more) in
-                let new_is : r ∷ more ≡ new =
-                same_rest old.site.book.records (r ∷ more) new (sym all ∙ are) in
-                rest.5 more later_grows.records
-                ∙ (ap (λ (l : List Record). l ++ take n more) is
-                ∙ (append_assoc old.site.book.records (r ∷ []) (take n more)
-                ∙ ap (λ (l : List Record). old.site.book.records ++ take (suc n) l) new_is)),
+                let xs = old.site.book.records in
+                let new_is : r ∷ more ≡ new = append_cancel_left xs (r ∷ more) new
+                (cc (are, later_grows.records, is, append_assoc xs (r ∷ []) more)) in
+                rw (← new_is)
+                (cc (
+                  rest.5 more later_grows.records,
+                  is,
+                  append_assoc xs (r ∷ []) (take n more),
+                )),
           )

@@ -4,6 +4,5 @@ pub mod WholeBatches
 pub mod OneRecord
 pub mod FirstTurns
 pub mod UnseenTurns
-pub mod Unsynced
 pub mod Crashes
 pub mod Synced

@@ -1,5 +1,5 @@
 -- What a synced batch leaves in its cell.
-use Rattle.std.proofs.Common.{List, Option, Some, None, subst, ◌∙◌}
+use Rattle.std.proofs.Common.{List, Option, Some, None, ◌∙◌}
 use Rattle.std.proofs.lemmas.List.{take-append-drop}
 use Rattle.std.specs.Prelude.{IsSome}
 use Rattle.cell_device.specs.Images.{Image}
@@ -20,5 +20,5 @@ of_text owner records (Some i) told text = text_records owner records i.seen tex
 pub synced : {C : Type 0} (device : C → Device) → SyncedAreRecords device
 synced device held now book opened is told =
     let does = is.syncs opened in
-    subst AreRecords (does.committed.0 ∙ take-append-drop held.synced book.records)
+    rw (does.committed.0 ∙ take-append-drop held.synced book.records) at
     (of_text book.owner _ (device now.cell).image told does.durable)
