@@ -1,7 +1,7 @@
 -- Over tapes a member that serves takes in what comes, in a turn in which nothing fails.
-use Rattle.std.proofs.Common.{ℕ, zero, suc, ◌≡◌, ◌≤◌, ◌<◌, ◌+◌, ◌^◌, inl, inr, refl, sym, ap, subst}
-use Rattle.std.proofs.Common.{◌∙◌, Bool, true, false, ◌||◌, cond, List, [], ◌∷◌, ◌++◌, length, map}
-use Rattle.std.proofs.Common.{Option, None, Some, length-append, arith}
+use Rattle.std.proofs.Common.{ℕ, zero, suc, ◌≡◌, ◌≤◌, ◌<◌, ◌+◌, ◌^◌, inl, inr, refl, ap, Bool, true}
+use Rattle.std.proofs.Common.{false, ◌||◌, cond, List, [], ◌∷◌, ◌++◌, length, map, Option, None}
+use Rattle.std.proofs.Common.{Some, length-append, arith}
 use Rattle.std.specs.Prelude.{Result, Ok, Err, is_some}
 use Rattle.std.specs.Option.{option_to_list, IfSome}
 use Rattle.fed_types.specs.declared.bag_id.BagId.{BagId}
@@ -31,7 +31,7 @@ use Rattle.site.specs.declared.answer.Line.{Line}
 use Rattle.site.specs.declared.answer.Line.TheVariants as site_lines
 use Rattle.site.specs.declared.fault.SiteFault.{SiteFault}
 use Rattle.site.specs.declared.fault.SiteFault.TheVariants as faults
-use Rattle.site.specs.Answered.{IsAnswered, Keeps, Gives}
+use Rattle.site.specs.Answered.{Keeps, Gives}
 use Rattle.site.specs.Calls.{Input, Recovers, Arrives, effect_of, recovers_if, on_recover}
 use Rattle.site.specs.Calls.{begins_ballot}
 use Rattle.site.specs.Effects.{Effect, Send, refuses}
@@ -43,13 +43,13 @@ use Rattle.lines.specs.Notices.{notice_of, reply_notice}
 use Rattle.world_law.specs.WellFormed.{AreMessages}
 use Rattle.world_law.proofs.Deeds.{some_same}
 use Rattle.world_law.proofs.WellFormed.{members_are_sites}
-use Rattle.world_law.proofs.WellFormedCalls.{effect_is}
+use Rattle.world_law.proofs.WellFormedCalls.{IsWellFormedInput, effect_is}
 use Rattle.world_law.proofs.WellFormedEffects.{IsWellFormedEffect}
 use Rattle.udp_site.specs.Requests as requests
 use Rattle.udp_site.specs.Requests.{Request}
 use Rattle.udp_site.specs.Served.{or_one}
 use Rattle.udp_site.specs.Turns.{Serving, Done, IsCalled, Asks, comes_of, posts_of, posts_to}
-use Rattle.udp_site.specs.Turns.{notices_of, recovery_notices, query_replies, asked, answer_to}
+use Rattle.udp_site.specs.Turns.{recovery_notices, query_replies, asked, answer_to}
 use Rattle.serving_law.specs.Disks.{journal}
 use Rattle.serving_law.specs.Rules.{owner_of}
 use Rattle.serving_law.proofs.Answers as answers
@@ -66,21 +66,6 @@ use Rattle.serving_reach_law.proofs.TapeJournals.{commits}
 
 abbrev said : Option Line → Result (Option Line) SiteFault
 said line = Ok line
-
-not_said : {fault : SiteFault} {line : Option Line}
-    → ◌≡◌ {A = Result (Option Line) SiteFault} (Err fault) (Ok line) → ⊥
-not_said e = cc
-
--- a call is refused so
-abbrev refused_as : SiteFault → Result Answer SiteFault
-refused_as fault = Err fault
-
-same_fault : (a b : SiteFault) → ◌≡◌ {A = Result (Option Line) SiteFault} (Err a) (Err b)
-    → refused_as a ≡ refused_as b
-same_fault a b e = ap refused_as (same e)
-  where
-    same : ◌≡◌ {A = Result (Option Line) SiteFault} (Err a) (Err b) → a ≡ b
-    same e = cc
 
 each_message : (sends : List Send) → ((d : Send) → Has d sends → IsMessage d.message)
     → answers.AreMessages sends
@@ -103,16 +88,13 @@ module _ (n : ℕ) (m : Option Message) where
   lines_of line = option_to_list (notice_of n (Arrives m) (said line))
 
   no_fault : (line : Option Line) → or_one (lines_of line) ≡ false
-  no_fault None = refl
-  no_fault (Some (site_lines.Registered bag)) = refl
-  no_fault (Some (site_lines.Known slot bag)) = refl
   no_fault (Some site_lines.Dropped) = refl
+  no_fault _ = refl
 
   no_refusal : (line : Option Line) (k : ℕ) → Has (Refused k faults.Memory) (lines_of line) → ⊥
   no_refusal None k h = has_none h
   no_refusal (Some (site_lines.Registered bag)) k h = has_none h
-  no_refusal (Some (site_lines.Known slot bag)) k h = absurd (cc (has_one h))
-  no_refusal (Some site_lines.Dropped) k h = absurd (cc (has_one h))
+  no_refusal _ k h = absurd (cc (has_one h))
 
 abbrev records_then : List Record → Option Record → List Record
 records_then records None = records
@@ -125,8 +107,7 @@ slots_stay : (records : List Record) (c : Option Record) (s : SlotName)
 slots_stay records None s h = h
 slots_stay records (Some r) s h =
     let f = has_map (λ (r : Record). r.slot) records h in
-    subst (λ (k : SlotName). Has k (map (λ (r : Record). r.slot) (records ++ r ∷ []))) f.2
-    (map_has (λ (r : Record). r.slot) (has_left (r ∷ []) f.1))
+    rw f.2 at (map_has (λ (r : Record). r.slot) (has_left (r ∷ []) f.1))
 
 supported_then : (records : List Record) (volatile : VolatileState) (c : Option Record)
     → IsSupported records volatile → IsSupported (records_then records c) volatile
@@ -204,6 +185,11 @@ module _ (members : Membership) (is_membership : IsMembership members) (addresse
   abbrev effect_at : Input → Effect
   effect_at input = effect_of q n records volatile input
 
+  formed_at : (input : Input) → IsWellFormedInput input → IsWellFormedEffect (effect_at input)
+  formed_at input is_input =
+      effect_is q (members_are_sites members is_membership) n
+      (members_are_sites members is_membership n member) records are volatile heard input is_input
+
   -- ---- a call that answers
 
   abbrev cell_then : Option Record → Tape
@@ -271,9 +257,24 @@ module _ (members : Membership) (is_membership : IsMembership members) (addresse
             );
           });
       refused = λ needs. absurd (cc needs);
-      volatile = ap (λ (f : Effect). f.volatile) (sym same);
+      volatile = rw same;
       idle = refl;
       tried = refl;
+    }
+
+    -- the turn says this
+    answers_turn : (r : Request) (notices : List Notice)
+        → (IsCalled device old input (Ok answer) new → comes_of device addresses (Some no_folders)
+        old r (record { posts = posts_of addresses (Ok answer); notices = notices }) new)
+        → or_one notices ≡ false → ((k : ℕ) → Has (Refused k faults.Memory) notices → ⊥)
+        → Turn addresses old r
+    answers_turn r notices comes not_the_last has_memory = record {
+      done = record { posts = posts_of addresses (Ok answer); notices = notices };
+      next = new;
+      comes = comes called;
+      not_the_last = not_the_last;
+      has_memory = has_memory;
+      opened = refl;
     }
 
   -- ---- a message arrives
@@ -282,87 +283,38 @@ module _ (members : Membership) (is_membership : IsMembership members) (addresse
     abbrev hearing : Effect
     hearing = effect_at (Arrives (Some m))
 
-    hearing_formed : IsWellFormedEffect hearing
-    hearing_formed =
-        effect_is q (members_are_sites members is_membership) n
-        (members_are_sites members is_membership n member) records are volatile heard
-        (Arrives (Some m)) is_message
-
     hearing_supported : IsSupported (records_then records hearing.commits) hearing.volatile
     hearing_supported =
         supported_then records hearing.volatile hearing.commits
         (elim (arrival_plain q n records volatile m).volatile [
-          | inl now ↦
-              subst (λ (v : VolatileState). IsSupported records v) (sym now)
-              (supported_hears records volatile m is)
-          | inr still ↦ subst (λ (v : VolatileState). IsSupported records v) (sym still) is
+          | inl now ↦ rw now (supported_hears records volatile m is)
+          | inr still ↦ rw still is
         ])
 
     pub hears_turn : Turn addresses old (requests.Says m)
     hears_turn =
         let plain = arrival_plain q n records volatile m in
-        record {
-          done = record {
-            posts =
-                posts_of addresses
-                (Ok (answer (Arrives (Some m)) hearing refl plain.line plain.says hearing_formed
-                plain.few hearing_supported));
-            notices =
-                notices_of n (Arrives (Some m))
-                (Ok (answer (Arrives (Some m)) hearing refl plain.line plain.says hearing_formed
-                plain.few hearing_supported));
-          };
-          next =
-              new (Arrives (Some m)) hearing refl plain.line plain.says hearing_formed plain.few
-              hearing_supported;
-          comes = (
-            Ok (answer (Arrives (Some m)) hearing refl plain.line plain.says hearing_formed
-                plain.few hearing_supported),
-            called (Arrives (Some m)) hearing refl plain.line plain.says hearing_formed plain.few
-                hearing_supported,
-            refl,
-          );
-          not_the_last = no_fault n (Some m) plain.line;
-          has_memory = λ k h. no_refusal n (Some m) plain.line k h;
-          opened = refl;
-        }
+        answers_turn (Arrives (Some m)) hearing refl plain.line plain.says
+        (formed_at (Arrives (Some m)) is_message) plain.few hearing_supported (requests.Says m)
+        (lines_of n (Some m) plain.line) (λ called_so. (_, called_so, refl))
+        (no_fault n (Some m) plain.line) (no_refusal n (Some m) plain.line)
 
   -- ---- a client has it recover a slot
 
   module _ (slot : SlotName) (is_slot : IsSlot slot) where
-    recover_formed : IsWellFormedEffect (effect_at (Recovers slot))
-    recover_formed =
-        effect_is q (members_are_sites members is_membership) n
-        (members_are_sites members is_membership n member) records are volatile heard
-        (Recovers slot) is_slot
-
     abbrev begun : BallotNumber → Effect
     begun b = begins_ballot q slot b volatile
 
     begun_turn : (b : BallotNumber) → effect_at (Recovers slot) ≡ begun b
         → Turn addresses old (requests.Recovers slot)
     begun_turn b same =
-        record {
-          done = record {
-            posts =
-                posts_of addresses
-                (Ok (answer (Recovers slot) (begun b) same None refl formed few then));
-            notices = [];
-          };
-          next = new (Recovers slot) (begun b) same None refl formed few then;
-          comes = (
-            Ok (answer (Recovers slot) (begun b) same None refl formed few then),
-            called (Recovers slot) (begun b) same None refl formed few then,
-            λ opened fault says. absurd (not_said (sym says ∙ ap (λ (f : Effect). f.says) same)),
-            refl,
-          );
-          not_the_last = refl;
-          has_memory = λ k h. has_none h;
-          opened = refl;
-        }
+        answers_turn (Recovers slot) (begun b) same None refl formed few then
+        (requests.Recovers slot) []
+        (λ called_so. (_, called_so, λ opened fault says. absurd (cc (same, says)), refl))
+        refl (λ k h. has_none h)
       where
         formed : IsWellFormedEffect (begun b)
-        formed = subst IsWellFormedEffect same recover_formed
+        formed = rw same at (formed_at (Recovers slot) is_slot)
 
         few : length (begun b).sends ≤ 1 + length (members_of members)
         few = omega (arith, as_many slot (Prepare b) (members_of members))
@@ -391,18 +343,14 @@ module _ (members : Membership) (is_membership : IsMembership members) (addresse
           done = record { posts = []; notices = recovery_notices n (Recovers slot) (Err fault) };
           next = as_before;
           comes = (Err fault, calls, refuses_so, refl);
-          not_the_last = ap (λ (ns : List Notice). or_one ns) silent;
-          has_memory = λ k h.
-              has_none (subst (λ (ns : List Notice). Has (Refused k faults.Memory) ns) silent h);
+          not_the_last = rw silent;
+          has_memory = λ k h. has_none (rw silent at h);
           opened = refl;
         }
       where
         calls : IsCalled device old (Recovers slot) (Err fault) as_before
         calls = record {
-          answered = λ opened.
-              subst (λ (f : Effect).
-              IsAnswered device old.site as_before.site volatile f (Err fault)) (sym same)
-              (record { keeps = refl; gives = gives });
+          answered = λ opened. rw same (record { keeps = refl; gives = gives });
           refused = λ needs. absurd (cc needs);
           volatile = refl;
           idle = refl;
@@ -412,8 +360,7 @@ module _ (members : Membership) (is_membership : IsMembership members) (addresse
         refuses_so : old.site.book.needs_opening ≡ false → (other : SiteFault)
             → (effect old.site volatile (Recovers slot)).says ≡ Err other
             → ◌≡◌ {A = Result Answer SiteFault} (Err fault) (Err other)
-        refuses_so opened other says =
-            same_fault fault other (sym (ap (λ (f : Effect). f.says) same) ∙ says)
+        refuses_so opened other says = cc (same, says)
 
     represented : Represents as_before.site volatile
     represented = (nothing, represents members n records volatile is)
@@ -473,10 +420,7 @@ module _ (members : Membership) (is_membership : IsMembership members) (addresse
           };
           next = old;
           comes = (asks_of all, asks_are all, refl, refl);
-          not_the_last = ap (λ (ns : List Notice). or_one (reply ∷ ns)) (asks_quiet all);
-          has_memory = λ k h.
-              not_refused k
-              (subst (λ (ns : List Notice). Has (Refused k faults.Memory) (reply ∷ ns))
-              (asks_quiet all) h);
+          not_the_last = rw (asks_quiet all);
+          has_memory = λ k h. not_refused k (rw (asks_quiet all) at h);
           opened = refl;
         }

@@ -1,13 +1,13 @@
 -- Each event of such a network, in which nothing fails, is brought about by a turn of a member in
 -- which nothing fails, or by its start, or by nothing.
-use Rattle.std.proofs.Common.{ℕ, ◌-◌, ◌≡◌, ◌⊎◌, inl, inr, refl, sym, ap, subst, ◌∙◌, Bool, true}
-use Rattle.std.proofs.Common.{false, ◌||◌, cond, List, [], ◌∷◌, ◌++◌, append-nil, length, take}
-use Rattle.std.proofs.Common.{drop, map, Option, None, Some, arith}
+use Rattle.std.proofs.Common.{ℕ, ◌-◌, ◌≡◌, ◌⊎◌, inl, inr, refl, sym, ap, ◌∙◌, Bool, true, false}
+use Rattle.std.proofs.Common.{◌||◌, List, [], ◌∷◌, ◌++◌, append-nil, length, take, drop, Option}
+use Rattle.std.proofs.Common.{None, Some}
 use Rattle.std.specs.Prelude.{Result, Ok, Err, is_some, slice_get, ◌==◌, not}
-use Rattle.std.specs.List.{filter, flat_map}
+use Rattle.std.specs.List.{filter}
 use Rattle.std.specs.Option.{option_to_list}
-use Rattle.std.proofs.lemmas.Bool.{false≢true, ne_eqb}
-use Rattle.std.proofs.lemmas.List.{take_all}
+use Rattle.std.proofs.Math.Seq.{take-length}
+use Rattle.std.proofs.lemmas.Bool.{both_ways, ne_eqb}
 use Rattle.fed_types.specs.declared.bag_id.BagId.{BagId}
 use Rattle.fed_types.specs.Ballots.{BallotNumber}
 use Rattle.fed_types.specs.Lists.{Has, here, there}
@@ -18,13 +18,10 @@ use Rattle.fed_types.specs.Values.{IsSlot, IsMembership}
 use Rattle.fed_types.specs.Laws.Lists.{has_none, has_one, has_left, has_right, has_drop}
 use Rattle.fed_types.specs.Laws.Lists.{is_in_decides}
 use Rattle.cell_device.specs.Devices.{Device}
-use Rattle.cell_device.specs.Images.{Image}
-use Rattle.records.specs.declared.owner.Owner.{Owner}
 use Rattle.records.specs.declared.record.Record.{Record}
-use Rattle.records.specs.Records.{AreRecords}
 use Rattle.records.specs.SlotStates.{vote_of, deposit_of, known_of}
 use Rattle.records.proofs.OneReading.{same_records_said}
-use Rattle.book.specs.OpenBooks.{OpenBook, ReadSays}
+use Rattle.book.specs.OpenBooks.{OpenBook}
 use Rattle.dgram.specs.declared.body.Body.TheVariants.{Ask, Query, Recover}
 use Rattle.dgram.specs.declared.message.Message.{Message}
 use Rattle.dgram.specs.Encoding.{datagram_of}
@@ -32,7 +29,6 @@ use Rattle.dgram.specs.Messages.{IsMessage}
 use Rattle.dgram.proofs.MessageOf.{message_of-again}
 use Rattle.proposer.specs.Proposals.{next_ballot}
 use Rattle.proposer.specs.VolatileStates.{VolatileState, new_volatile}
-use Rattle.schedule.specs.declared.fate.Fate.{Fate}
 use Rattle.schedule.specs.declared.fate.Fate.TheVariants.{Whole}
 use Rattle.site.specs.declared.answer.Answer.{Answer}
 use Rattle.site.specs.declared.answer.Line.{Line}
@@ -41,14 +37,12 @@ use Rattle.site.specs.declared.fault.SiteFault.TheVariants as faults
 use Rattle.site.specs.Answered.{IsAnswered, Keeps}
 use Rattle.site.specs.Calls.{Input, Recovers, Asks, Arrives, effect_of, recovers_if, on_recover}
 use Rattle.site.specs.Calls.{on_ask, begins_ballot, reply_by, reply_of}
-use Rattle.site.specs.Datagrams.{handed_out, datagram}
 use Rattle.site.specs.Effects.{Effect, Send, refuses, to_each, commits_and_sends}
 use Rattle.site.specs.Sites.{OpenSite, effect}
 use Rattle.lines.specs.declared.notice.Notice.{Notice}
 use Rattle.lines.specs.declared.notice.Notice.TheVariants.{Refused}
-use Rattle.world_law.specs.Networks.{Network, SiteState, Event, Up, nothing, starts, takes, happens}
+use Rattle.world_law.specs.Networks.{Network, Event, Up, starts, takes, happens}
 use Rattle.world_law.specs.Networks as networks
-use Rattle.world_law.specs.WellFormed.{AreMessages}
 use Rattle.world_law.proofs.WellFormed.{members_are_sites}
 use Rattle.world_law.proofs.WellFormedCalls.{IsWellFormedInput, effect_is}
 use Rattle.world_law.proofs.WellFormedEffects.{IsWellFormedEffect}
@@ -59,17 +53,17 @@ use Rattle.udp_site.specs.Traffic.{Post, Taken, From}
 use Rattle.udp_site.specs.Requests as requests
 use Rattle.udp_site.specs.Requests.{Request, request_of, request_in}
 use Rattle.udp_site.specs.Served.{text_of, or_one}
-use Rattle.udp_site.specs.Turns.{Serving, Done, IsCalled, begins, turn_of, comes_of, posts_of}
-use Rattle.udp_site.specs.Turns.{posts_to, notices_of, recovery_notices, asked, answer_to, others}
+use Rattle.udp_site.specs.Turns.{Serving, Done, IsCalled, begins, comes_of, posts_of, posts_to}
+use Rattle.udp_site.specs.Turns.{notices_of, recovery_notices, asked, answer_to, others}
 use Rattle.udp_site.specs.Turns as turns
 use Rattle.serving_law.specs.Federations.{Member, Serves, Down, Federation, Step, Happening, Turns}
-use Rattle.serving_law.specs.Federations.{Fails, Dies, Ends, Renews, Starts, becomes, after}
+use Rattle.serving_law.specs.Federations.{Starts, after}
 use Rattle.serving_law.specs.Rules.{owner_of, MayCome, Takes, May}
-use Rattle.serving_law.proofs.Networks.{IsServed, IsMember}
+use Rattle.serving_law.proofs.Networks.{IsServed}
 use Rattle.serving_law.proofs.Scene.{OnlyNow}
 use Rattle.serving_law.proofs.Spoken.{IsSiteBody, effect_speaks}
 use Rattle.serving_reach_law.specs.Acts as acts
-use Rattle.serving_reach_law.specs.Acts.{Act, IsFor, IsOf, Comes, MayDo, GoesWell, Does}
+use Rattle.serving_reach_law.specs.Acts.{Act, IsFor, Comes, MayDo, GoesWell, Does}
 use Rattle.serving_reach_law.specs.Reach.{HavePorts, site_of}
 use Rattle.serving_reach_law.proofs.Bytes.{query_is_bytes, recover_is_bytes, handed_is_bytes}
 use Rattle.serving_reach_law.proofs.Moving.{a_site, Mirrors, Out, moves, moves_not, takes_nothing}
@@ -83,16 +77,11 @@ use Rattle.serving_reach_law.proofs.Words.{sent_is_posted, sent_has, site_says}
 abbrev said : Option Line → Result (Option Line) SiteFault
 said line = Ok line
 
-not_said : {fault : SiteFault} {line : Option Line}
-    → ◌≡◌ {A = Result (Option Line) SiteFault} (Err fault) (Ok line) → ⊥
-not_said e = cc
-
 -- after an answer the book has the call's record
 records_after : {C : Type 0} (device : C → Device) (o : Option Record) (answer : Answer)
     (old new : OpenBook C) → Keeps device o (Ok answer) old new
     → new.records ≡ old.records ++ option_to_list o
-records_after device None answer old new e =
-    ap (λ b. b.records) e ∙ sym (append-nil old.records)
+records_after device None answer old new e = rw (e, append-nil)
 records_after device (Some r) answer old new (inl p) = absurd (cc p.0)
 records_after device (Some r) answer old new (inr c) = c.committed.0
 
@@ -152,30 +141,26 @@ module _ {C : Type 0} (device : C → Device) (members : Membership)
 
       module _ (old : Serving C) (serves : f.members n ≡ Serves old) where
         served : IsServed device members n old (r.w.sites n)
-        served =
-            subst (λ (k : Member C). IsMember device members n k (r.w.sites n)) serves
-            (r.stands.is n)
+        served = rw serves at (r.stands.is n)
 
-        is_here : w.sites n ≡ a_site old.site.book.records (Up old.volatile)
+        abbrev records : List Record
+        records = old.site.book.records
+
+        is_here : w.sites n ≡ a_site records (Up old.volatile)
         is_here = m.sites n ∙ ap site_of serves
 
         abbrev effect_at : Input → Effect
-        effect_at input = effect_of q n old.site.book.records old.volatile input
+        effect_at input = effect_of q n records old.volatile input
 
         same_effect : (input : Input) → effect old.site old.volatile input ≡ effect_at input
-        same_effect input =
-            ap (λ (o : Owner).
-            effect_of (quorums_of o.members) o.site old.site.book.records old.volatile input)
-            served.whose
+        same_effect input = rw served.whose
 
         formed : (input : Input) → IsWellFormedInput input → IsWellFormedEffect (effect_at input)
         formed input is =
             effect_is q (members_are_sites members is_membership) n
-            (members_are_sites members is_membership n member) old.site.book.records
-            (subst AreRecords (sym served.records) (r.stands.formed.records n)) old.volatile
-            (subst (λ (v : VolatileState). AreMessages v.heard) (sym served.volatile)
-            (r.stands.formed.heard n))
-            input is
+            (members_are_sites members is_membership n member) records
+            (rw served.records (r.stands.formed.records n)) old.volatile
+            (rw served.volatile (r.stands.formed.heard n)) input is
 
         -- where the definitions answer, and neither memory nor the device fails, the call does
         answer_is : (input : Input) (line : Option Line) (result : Result Answer SiteFault)
@@ -188,8 +173,7 @@ module _ {C : Type 0} (device : C → Device) (members : Membership)
         answer_is input line (Err faults.NeedsOpen) new c says memory cell =
             absurd (c.answered served.opened).gives
         answer_is input line (Err fault) new c says memory cell =
-            absurd (not_said (sym (c.answered served.opened).gives.0
-            ∙ ap (λ (e : Effect). e.says) (same_effect input) ∙ says))
+            absurd (cc ((c.answered served.opened).gives.0, same_effect input, says))
 
         -- it takes this in, in a turn that goes well
         record TakesWell (took : Taken) (s : Step C) : Type 0 where
@@ -202,25 +186,19 @@ module _ {C : Type 0} (device : C → Device) (members : Membership)
           what_comes : (k : Request) → request_of members.federation took ≡ k
               → comes_of device addresses (Some s.folders) old k s.turn.done s.next
           what_comes k asks =
-              subst (λ (k : Request).
-              comes_of device addresses (Some s.folders) old k s.turn.done s.next)
-              (ap (λ (o : Owner). request_of o.members.federation took) served.whose ∙ asks)
-              (subst (λ (k : Taken).
-              turn_of device addresses (Some s.folders) old k s.turn.done s.next) t.took_is
-              (subst (λ (ps : List ℕ).
-              turn_of device ps (Some s.folders) old s.turn.took s.turn.done s.next) t.ports_are
-              t.takes.comes))
+              let asks_there : request_of (turns.members old).federation took ≡ k =
+              rw served.whose asks in
+              rw (t.ports_are, t.took_is, asks_there) at t.takes.comes
 
           -- its site moves in the federation as in the network
-          turned : (records : List Record) (volatile : VolatileState) (sends : List Send)
-              → s.next.site.book.records ≡ records → s.next.volatile ≡ volatile
+          turned : (kept : List Record) (volatile : VolatileState) (sends : List Send)
+              → s.next.site.book.records ≡ kept → s.next.volatile ≡ volatile
               → ((d : Send) → Has d sends → Posted members addresses s.turn.done.posts d)
-              → Mirror (after f (whole n s)) (went w n records (Up volatile) sends)
-          turned records volatile sends same_records same_volatile posted =
+              → Mirror (after f (whole n s)) (went w n kept (Up volatile) sends)
+          turned kept volatile sends same_records same_volatile posted =
               moves members addresses before f w m n (Serves s.next)
-              (take (length s.turn.done.posts) s.turn.done.posts) records (Up volatile) sends
-              (ap (λ (rs : List Record). a_site rs (Up s.next.volatile)) same_records
-              ∙ ap (λ (v : VolatileState). a_site records (Up v)) same_volatile)
+              (take (length s.turn.done.posts) s.turn.done.posts) kept (Up volatile) sends
+              (rw (same_records, same_volatile))
               (λ d h.
               let p = posted d h in
               record {
@@ -232,10 +210,7 @@ module _ {C : Type 0} (device : C → Device) (members : Membership)
                       post.1,
                       drop_right before f.handed
                           (take (length s.turn.done.posts) s.turn.done.posts) m.within
-                          (subst (λ (ps : List Post).
-                          Has (post.0, datagram_of members.federation d.message) ps)
-                          (sym (take_all (length s.turn.done.posts) s.turn.done.posts
-                          (omega arith))) post.2),
+                          (rw (take-length s.turn.done.posts) post.2),
                     );
               })
 
@@ -250,75 +225,42 @@ module _ {C : Type 0} (device : C → Device) (members : Membership)
               (device_said : or_one (says (Err faults.Device)) ≡ true) where
             has_memory : result ≡ Err faults.Memory → ⊥
             has_memory e =
-                t.well.has_memory (turns.number old)
-                (subst (λ (ns : List Notice). Has (Refused (turns.number old) faults.Memory) ns)
-                (sym (ap (λ (d : Done). d.notices) done_is ∙ ap says e ∙ memory_said)) (here refl))
+                t.well.has_memory (turns.number old) (rw (done_is, e, memory_said) (here refl))
 
             has_cell : result ≡ Err faults.Device → ⊥
-            has_cell e =
-                false≢true (sym t.well.not_the_last
-                ∙ ap (λ (d : Done). or_one d.notices) done_is
-                ∙ ap (λ (k : Result Answer SiteFault). or_one (says k)) e ∙ device_said)
+            has_cell e = both_ways _ (rw (done_is, e) at t.well.not_the_last) device_said
 
             module _ (is : IsWellFormedInput input) (answer : Answer) (ok : result ≡ Ok answer)
               where
                 answered_so : IsAnswered device old.site s.next.site old.volatile (effect_at input)
                     (Ok answer)
-                answered_so =
-                    subst (λ (e : Effect).
-                    IsAnswered device old.site s.next.site old.volatile e (Ok answer))
-                    (same_effect input)
-                    (subst (λ (k : Result Answer SiteFault).
-                    IsAnswered device old.site s.next.site old.volatile
-                    (effect old.site old.volatile input) k) ok (call.answered served.opened))
-
-                volatile_then : s.next.volatile ≡ (effect_at input).volatile
-                volatile_then =
-                    call.volatile
-                    ∙ ap (λ (k : Result Answer SiteFault).
-                    turns.volatile_after (effect old.site old.volatile input) old.volatile k) ok
-                    ∙ ap (λ (e : Effect). e.volatile) (same_effect input)
-
-                posts_are : s.turn.done.posts
-                    ≡ flat_map (turns.outgoing_posts addresses) answer.sends.items
-                posts_are = ap (λ (d : Done). d.posts) done_is ∙ ap (posts_of addresses) ok
-
-                sends_are : map handed_out answer.sends.items
-                    ≡ map (datagram members.federation) (effect_at input).sends
-                sends_are =
-                    subst (λ (o : Owner).
-                    map handed_out answer.sends.items
-                    ≡ map (datagram o.members.federation) (effect_at input).sends)
-                    served.whose answered_so.gives.1
+                answered_so = rw (ok, same_effect input) at (call.answered served.opened)
 
                 sends_posted : (d : Send) → Has d (effect_at input).sends
                     → Posted members addresses s.turn.done.posts d
                 sends_posted d h = record {
                   is = ((formed input is).sends d h).1;
-                  speaks = effect_speaks q n old.site.book.records old.volatile input d h;
+                  speaks = effect_speaks q n records old.volatile input d h;
                   posted = λ to.
                       let p = some_number (slice_get addresses (d.to - 1)) (have_ports d.to to) in (
                         p.0,
                         p.1,
-                        subst (λ (ps : List Post).
-                            Has (p.0, datagram_of members.federation d.message) ps)
-                            (sym posts_are)
+                        rw (done_is, ok)
                             (sent_is_posted members.federation addresses answer.sends.items
-                            (effect_at input).sends sends_are d h p.0 p.1),
+                            (effect_at input).sends (rw served.whose at answered_so.gives.1) d h
+                            p.0 p.1),
                       );
                 }
 
                 moved_so : Mirror (after f (whole n s)) (takes q w n input Whole).network
                 moved_so =
-                    subst (λ (x : Network). Mirror (after f (whole n s)) x)
-                    (sym (takes_up members w n member input old.site.book.records old.volatile
-                    is_here (effect_at input) refl))
-                    (turned
-                    (old.site.book.records ++ option_to_list (effect_at input).commits)
+                    rw (takes_up members w n member input records old.volatile is_here
+                    (effect_at input) refl)
+                    (turned (records ++ option_to_list (effect_at input).commits)
                     (effect_at input).volatile (effect_at input).sends
                     (records_after device (effect_at input).commits answer old.site.book
                     s.next.site.book answered_so.keeps)
-                    volatile_then sends_posted)
+                    (rw (call.volatile, ok, same_effect input)) sends_posted)
 
             called_turn : IsWellFormedInput input → (line : Option Line)
                 → (effect_at input).says ≡ said line
@@ -328,44 +270,28 @@ module _ {C : Type 0} (device : C → Device) (members : Membership)
                 moved_so is a.0 a.1
 
         -- the event is brought about by any turn that takes this in and goes well
-        module _ (took : Taken) (x : Network)
-            (each : (s : Step C) → TakesWell took s → Mirror (after f (whole n s)) x) where
-          same_old : (k : ℕ) (other : Serving C) → k ≡ n → f.members k ≡ Serves other → other ≡ old
-          same_old k other same is =
-              serves_same
-              (sym (subst (λ (i : ℕ). f.members i ≡ Serves other) same is) ∙ serves)
-            where
-              serves_same : {a b : Serving C} → Serves a ≡ Serves b → a ≡ b
-              serves_same e = cc
-
+        module _ (took : Taken) (request : Request)
+            (asked_so : request_of members.federation took ≡ request) (x : Network)
+            (each : (s : Step C) → TakesWell took s
+            → comes_of device addresses (Some s.folders) old request s.turn.done s.next
+            → Mirror (after f (whole n s)) x) where
           done_by : (h : Happening C) → May device members f h → Does addresses (acts.Take n took) h
               → Mirror (after f h) x
           done_by (Turns k s handed written) (other, serving, takes, opened)
               (same, took_is, ports_are, well, all, text) =
-              subst (λ (i : ℕ).
-              Mirror (becomes f i (Serves s.next) (take handed s.turn.done.posts)) x) (sym same)
-              (subst (λ (i : ℕ).
-              Mirror (becomes f n (Serves s.next) (take i s.turn.done.posts)) x) (sym all)
-              (each s (record {
+              let same_old : other ≡ old = cc (same, serving.1, serves) in
+              let t : TakesWell took s = record {
                 took_is = took_is;
                 ports_are = ports_are;
-                takes =
-                    subst (λ (v : Serving C). Takes device members f v s)
-                    (same_old k other same serving.1) takes;
+                takes = rw same_old at takes;
                 well = well;
-              })))
-          done_by (Fails k s handed written records) may does = absurd does
-          done_by (Dies k s records) may does = absurd does
-          done_by (Ends k records) may does = absurd does
-          done_by (Renews k) may does = absurd does
-          done_by (Starts k cell site) may does = absurd does
+              } in
+              rw (same, all) (each s t (what_comes took s t request asked_so))
+          done_by _ may does = absurd does
 
           replayed_by : MayCome members f.handed took
               → Comes members addresses (drop before f.handed) n slot took → Replayed f x
           replayed_by may comes = inr (acts.Take n took, (runs, (old, serves), may, comes), done_by)
-
-        abbrev records : List Record
-        records = old.site.book.records
 
         -- ---- a client has it recover the slot
 
@@ -379,32 +305,20 @@ module _ {C : Type 0} (device : C → Device) (members : Membership)
         asks_recover =
             ap (request_in 0) (message_of-again members.federation recover_message (is_slot, tt))
 
-        may_recover : MayCome members f.handed recover_comes
-        may_recover = (
-          recover_is_bytes members.federation slot is_slot,
-          λ message e is. absurd (other (sym asks_recover ∙ e)),
-        )
-          where
-            other : {message : Message} → requests.Recovers slot ≡ requests.Says message → ⊥
-            other e = cc
-
-        comes_recover : Comes members addresses (drop before f.handed) n slot recover_comes
-        comes_recover =
-            subst (λ (k : Request).
-            IsOf members addresses (drop before f.handed) n slot
-            (datagram_of members.federation recover_message) k) (sym asks_recover) refl
-
         recovers_turn : (b : BallotNumber)
             → effect_at (Recovers slot) ≡ begins_ballot q slot b old.volatile
             → Replayed f (takes q w n (Recovers slot) Whole).network
         recovers_turn b e =
-            replayed_by recover_comes (takes q w n (Recovers slot) Whole).network
-            (λ s t.
-            let done = what_comes recover_comes s t (requests.Recovers slot) asks_recover in
+            replayed_by recover_comes (requests.Recovers slot) asks_recover _
+            (λ s t done.
             called_turn recover_comes s t (Recovers slot)
             (recovery_notices (turns.number old) (Recovers slot)) done.0 done.1 done.3 refl refl
-            is_slot None (ap (λ (e : Effect). e.says) e))
-            may_recover comes_recover
+            is_slot None (rw e)) (
+              recover_is_bytes members.federation slot is_slot,
+              λ message says is.
+                  absurd (cc (asks_recover, says)),
+            )
+            (rw asks_recover)
 
         recovers_now : Replayed f (takes q w n (Recovers slot) Whole).network
         unfolding on_recover
@@ -414,9 +328,8 @@ module _ {C : Type 0} (device : C → Device) (members : Membership)
             (next_ballot n slot records old.volatile.heard) old.volatile) [
               | inl begun ↦ recovers_turn begun.0 begun.1
               | inr refused ↦
-                  inl (subst (λ (x : Network). Mirror f x)
-                  (sym (takes_up members w n member (Recovers slot) records old.volatile is_here
-                  (refuses refused.0 old.volatile) refused.1))
+                  inl (rw (takes_up members w n member (Recovers slot) records old.volatile
+                  is_here (refuses refused.0 old.volatile) refused.1)
                   (moves_not members addresses before f w m n records (Up old.volatile) is_here))
             ]
 
@@ -432,32 +345,11 @@ module _ {C : Type 0} (device : C → Device) (members : Membership)
         asks_query =
             ap (request_in 0) (message_of-again members.federation query_message (is_slot, tt))
 
-        may_query : MayCome members f.handed query_comes
-        may_query = (
-          query_is_bytes members.federation slot is_slot,
-          λ message e is. absurd (other (sym asks_query ∙ e)),
-        )
-          where
-            other : {message : Message} → requests.Queries 0 slot ≡ requests.Says message → ⊥
-            other e = cc
-
-        comes_query : Comes members addresses (drop before f.handed) n slot query_comes
-        comes_query =
-            subst (λ (k : Request).
-            IsOf members addresses (drop before f.handed) n slot
-            (datagram_of members.federation query_message) k) (sym asks_query) refl
-
         asked_are : known_of slot records ≡ None → asked old (answer_to old slot)
             ≡ filter (λ (k : ℕ). not (k == n)) (members_of members)
         unfolding reply_of
         asked_are unknown =
-            ap (λ (t : Bool).
-            asked old (cond t (Err faults.NeedsOpen) (Ok (reply_of slot records)))) served.opened
-            ∙ ap (λ (o : Option BagId). asked old (Ok (reply_by o (deposit_of slot records))))
-            unknown
-            ∙ of_own (deposit_of slot records)
-            ∙ ap (λ (o : Owner). filter (λ (k : ℕ). not (k == o.site)) (members_of o.members))
-            served.whose
+            rw (served.opened, unknown, of_own (deposit_of slot records), served.whose)
           where
             of_own : (own : Option BagId) → asked old (Ok (reply_by None own)) ≡ others old
             of_own None = refl
@@ -471,40 +363,27 @@ module _ {C : Type 0} (device : C → Device) (members : Membership)
 
         question_is : question
             ≡ datagram_of members.federation (record { slot = slot; body = Ask n })
-        question_is =
-            ap (λ (o : Owner).
-            datagram_of o.members.federation (record { slot = slot; body = Ask o.site }))
-            served.whose
+        question_is = rw served.whose
 
         -- each that is asked is handed one, unless memory ran out
         asks_post : (all : List ℕ) (done : Done) → turns.Asks addresses old slot all done
             → (Has (Refused (turns.number old) faults.Memory) done.notices → ⊥)
             → (k : ℕ) → Has k all → (port : ℕ) → slice_get addresses (k - 1) ≡ Some port
             → Has (port, question) done.posts
-        asks_post [] done t well k h port at = absurd (has_none h)
-        asks_post (j ∷ all) done (rest, asks, inl e) well k (here same) port at =
-            subst (λ (d : Done). Has (port, question) d.posts) (sym e)
-            (has_left rest.posts
-            (post_has addresses j question port
-            (subst (λ (i : ℕ). slice_get addresses (i - 1) ≡ Some port) (sym same) at)))
-        asks_post (j ∷ all) done (rest, asks, inl e) well k (there h) port at =
-            subst (λ (d : Done). Has (port, question) d.posts) (sym e)
-            (has_right (posts_to addresses j question)
-            (asks_post all rest asks
-            (λ i. well
-            (subst (λ (d : Done). Has (Refused (turns.number old) faults.Memory) d.notices)
-            (sym e) i))
-            k h port at))
-        asks_post (j ∷ all) done (rest, asks, inr e) well k h port at =
-            absurd (well
-            (subst (λ (d : Done). Has (Refused (turns.number old) faults.Memory) d.notices)
-            (sym e) (here refl)))
+        asks_post [] done t well k h port is = absurd (has_none h)
+        asks_post (j ∷ all) done (rest, asks, inl e) well k (here same) port is =
+            rw e (has_left rest.posts (post_has addresses j question port (rw same is)))
+        asks_post (j ∷ all) done (rest, asks, inl e) well k (there h) port is =
+            rw e (has_right (posts_to addresses j question)
+            (asks_post all rest asks (λ i. well (rw e i)) k h port is))
+        asks_post (j ∷ all) done (rest, asks, inr e) well k h port is =
+            absurd (well (rw e (here refl)))
 
         module _ (k : ℕ) (to_runs : Has k running) (unknown : known_of slot records ≡ None)
             (other : n ≡ k → ⊥) where
           among : Has k (asked old (answer_to old slot))
           among =
-              subst (λ (ks : List ℕ). Has k ks) (sym (asked_are unknown))
+              rw (asked_are unknown)
               (filter_has (λ (j : ℕ). not (j == n)) k (members_of members) (are_members k to_runs)
               (ap not (ne_eqb k n (λ e. other (sym e)))))
 
@@ -514,42 +393,37 @@ module _ {C : Type 0} (device : C → Device) (members : Membership)
               → Has d (to_each slot (Ask n) (k ∷ [])) → Posted members addresses s.turn.done.posts d
           unfolding to_each
           posted_question s well (asks, asks_are, done_is, same) d h =
-              subst (Posted members addresses s.turn.done.posts) (has_one h) (record {
+              rw (← has_one h) (record {
                 is = (is_slot, members_are_sites members is_membership n member);
                 speaks = tt;
                 posted = λ to.
                     let p = some_number (slice_get addresses (k - 1)) (have_ports k to) in (
                       p.0,
                       p.1,
-                      subst (λ (bytes : List ℕ). Has (p.0, bytes) s.turn.done.posts) question_is
-                          (subst (λ (d : Done). Has (p.0, question) d.posts) (sym done_is)
+                      rw (← question_is, done_is)
                           (has_right
                           (turns.query_replies (turns.members old).federation (turns.number old) 0
                           slot (answer_to old slot))
                           (asks_post (asked old (answer_to old slot)) asks asks_are
-                          (λ i. well
-                          (subst (λ (d : Done).
-                          Has (Refused (turns.number old) faults.Memory) d.notices) (sym done_is)
-                          (there i)))
-                          k among p.0 p.1))),
+                          (λ i. well (rw done_is (there i))) k among p.0 p.1)),
                     );
               })
 
           asks_now : Replayed f (takes q w n (Asks slot k) Whole).network
           unfolding on_ask
           asks_now =
-              replayed_by query_comes (takes q w n (Asks slot k) Whole).network
-              (λ s t.
-              let done = what_comes query_comes s t (requests.Queries 0 slot) asks_query in
-              subst (λ (x : Network). Mirror (after f (whole n s)) x)
-              (sym (takes_up members w n member (Asks slot k) records old.volatile is_here
-              (commits_and_sends slot None (Ask n) (k ∷ []) old.volatile) refl))
+              replayed_by query_comes (requests.Queries 0 slot) asks_query _
+              (λ s t done.
+              rw (takes_up members w n member (Asks slot k) records old.volatile is_here
+              (commits_and_sends slot None (Ask n) (k ∷ []) old.volatile) refl)
               (turned query_comes s t (records ++ []) old.volatile
-              (to_each slot (Ask n) (k ∷ []))
-              (ap (λ (v : Serving C). v.site.book.records) done.3 ∙ sym (append-nil records))
-              (ap (λ (v : Serving C). v.volatile) done.3)
-              (posted_question s (t.well.has_memory (turns.number old)) done)))
-              may_query comes_query
+              (to_each slot (Ask n) (k ∷ [])) (rw (done.3, append-nil records)) (rw done.3)
+              (posted_question s (t.well.has_memory (turns.number old)) done))) (
+                query_is_bytes members.federation slot is_slot,
+                λ message says is.
+                    absurd (cc (asks_query, says)),
+              )
+              (rw asks_query)
 
         -- ---- a datagram comes
 
@@ -561,9 +435,7 @@ module _ {C : Type 0} (device : C → Device) (members : Membership)
           bytes = datagram_of members.federation d.message
 
           handed_here : IsFor members addresses (drop before f.handed) n bytes
-          handed_here =
-              subst (λ (k : ℕ). IsFor members addresses (drop before f.handed) k bytes) to
-              (out.handed (subst (λ (k : ℕ). Has k (members_of members)) (sym to) member))
+          handed_here = rw to at (out.handed (rw to member))
 
           asks_it : request_of members.federation (From 0 bytes) ≡ requests.Says d.message
           asks_it =
@@ -577,22 +449,15 @@ module _ {C : Type 0} (device : C → Device) (members : Membership)
             λ message e is. (handed_here.0, has_drop before f.handed handed_here.2),
           )
 
-          comes_here : Comes members addresses (drop before f.handed) n slot (From 0 bytes)
-          comes_here =
-              subst (λ (k : Request).
-              IsOf members addresses (drop before f.handed) n slot bytes k)
-              (sym asks_it) handed_here
-
           hears_now : Replayed f (takes q w n (Arrives (Some d.message)) Whole).network
           hears_now =
               let plain = arrival_plain q n records old.volatile d.message in
-              replayed_by (From 0 bytes) (takes q w n (Arrives (Some d.message)) Whole).network
-              (λ s t.
-              let done = what_comes (From 0 bytes) s t (requests.Says d.message) asks_it in
+              replayed_by (From 0 bytes) (requests.Says d.message) asks_it _
+              (λ s t done.
               called_turn (From 0 bytes) s t (Arrives (Some d.message))
               (notices_of (turns.number old) (Arrives (Some d.message))) done.0 done.1 done.2 refl
               refl out.is plain.line plain.says)
-              may_hear comes_here
+              may_hear (rw asks_it handed_here)
 
       -- ---- a member that is down
 
@@ -602,50 +467,30 @@ module _ {C : Type 0} (device : C → Device) (members : Membership)
 
         nothing_comes : (input : Input) → Replayed f (takes q w n input Whole).network
         nothing_comes input =
-            inl (subst (λ (x : Network). Mirror f x)
-            (sym (takes_nothing members w n member input records is_down)) m)
+            inl (rw (takes_nothing members w n member input records is_down) m)
 
         -- what is opened has the records that the member left
         opened_with : (cell : C) (site : OpenSite C) → May device members f (Starts n cell site)
             → site.book.records ≡ records
         opened_with cell site (is_member, (left, was_down, reads), opens) =
+            let same : left ≡ records = cc (was_down, down) in
             same_records_said (owner_of device members n) site.book.records left reads.image.seen
-            (subst (λ (o : Option Image).
-            ReadSays (owner_of device members n) o (Ok site.book.records)) reads.told
-            opens.records)
-            reads.says
-            ∙ same_left (sym was_down ∙ down)
-          where
-            same_left : {xs ys : List Record} → ◌≡◌ {A = Member C} (Down xs) (Down ys) → xs ≡ ys
-            same_left e = cc
+            (rw reads.told at opens.records) reads.says
+            ∙ same
 
         opened_now : (networks.if_member q w n (starts w n (w.sites n).mode)).network
             ≡ went w n records (Up new_volatile) []
-        opened_now =
-            ap (λ (t : Bool). (cond t (starts w n (w.sites n).mode) (nothing w)).network)
-            ((is_in_decides (members_of members) n).1 member)
-            ∙ ap (λ (s : SiteState). (starts w n s.mode).network) is_down
-            ∙ ap (λ (s : SiteState). went w n s.records (Up new_volatile) []) is_down
+        opened_now = rw ((is_in_decides (members_of members) n).1 member, is_down, is_down)
 
         started_by : (h : Happening C) → May device members f h → Does addresses (acts.Start n) h
             → Mirror (after f h)
             (networks.if_member q w n (starts w n (w.sites n).mode)).network
         started_by (Starts k cell site) may same =
-            subst (λ (x : Network). Mirror (after f (Starts k cell site)) x) (sym opened_now)
-            (subst (λ (i : ℕ).
-            Mirror (becomes f i (Serves (begins site new_volatile)) [])
-            (went w n records (Up new_volatile) [])) (sym same)
+            rw (opened_now, same)
             (moves members addresses before f w m n (Serves (begins site new_volatile)) [] records
-            (Up new_volatile) []
-            (ap (λ (rs : List Record). a_site rs (Up new_volatile))
-            (opened_with cell site
-            (subst (λ (i : ℕ). May device members f (Starts i cell site)) same may)))
-            (λ d h. absurd (has_none h))))
-        started_by (Turns k s handed written) may does = absurd does
-        started_by (Fails k s handed written left) may does = absurd does
-        started_by (Dies k s left) may does = absurd does
-        started_by (Ends k left) may does = absurd does
-        started_by (Renews k) may does = absurd does
+            (Up new_volatile) [] (rw (opened_with cell site (rw same at may)))
+            (λ d h. absurd (has_none h)))
+        started_by _ may does = absurd does
 
         starts_now : Replayed f (networks.if_member q w n (starts w n (w.sites n).mode)).network
         starts_now = inr (acts.Start n, (runs, (records, down)), started_by)
@@ -662,36 +507,29 @@ module _ {C : Type 0} (device : C → Device) (members : Membership)
 
       recovers : Replayed f (takes q w n (Recovers slot) Whole).network
       recovers =
-          by_member (takes q w n (Recovers slot) Whole).network
-          (λ old serves. recovers_now old serves)
+          by_member _ recovers_now
           (λ records down. nothing_comes records down (Recovers slot))
 
       asks : (k : ℕ) → Has k running → known_of slot (records_at w n) ≡ None → (n ≡ k → ⊥)
           → Replayed f (takes q w n (Asks slot k) Whole).network
       asks k to_runs unknown other =
-          by_member (takes q w n (Asks slot k) Whole).network
+          by_member _
           (λ old serves.
-          asks_now old serves k to_runs
-          (sym (ap (λ (s : SiteState). known_of slot s.records) (is_here old serves)) ∙ unknown)
-          other)
+          asks_now old serves k to_runs (rw (records_at, is_here old serves) at unknown) other)
           (λ records down. nothing_comes records down (Asks slot k))
 
       hears : (d : Send) → Has d w.sent → d.to ≡ n
           → Replayed f (takes q w n (Arrives (Some d.message)) Whole).network
       hears d sent to =
-          by_member (takes q w n (Arrives (Some d.message)) Whole).network
-          (λ old serves. hears_now old serves d sent to)
+          by_member _ (λ old serves. hears_now old serves d sent to)
           (λ records down. nothing_comes records down (Arrives (Some d.message)))
 
       is_started : Replayed f (networks.if_member q w n (starts w n (w.sites n).mode)).network
       is_started =
-          by_member (networks.if_member q w n (starts w n (w.sites n).mode)).network
+          by_member _
           (λ old serves.
-          inl (subst (λ (x : Network). Mirror f x)
-          (sym (ap (λ (t : Bool). (cond t (starts w n (w.sites n).mode) (nothing w)).network)
-          ((is_in_decides (members_of members) n).1 member)
-          ∙ ap (λ (s : SiteState). (starts w n s.mode).network) (is_here old serves))) m))
-          (λ records down. starts_now records down)
+          inl (rw ((is_in_decides (members_of members) n).1 member, is_here old serves) m))
+          starts_now
 
     -- ---- any event
 
@@ -700,20 +538,10 @@ module _ {C : Type 0} (device : C → Device) (members : Membership)
     unfolding happens
     replayed (networks.Start n) f r w m runs brought = is_started f r w m n runs
     replayed (networks.Recover n s fate) f r w m (runs, same, is_whole) brought =
-        subst (λ (s : SlotName). Replayed f (takes q w n (Recovers s) fate).network) (sym same)
-        (subst (λ (t : Fate). Replayed f (takes q w n (Recovers slot) t).network) (sym is_whole)
-        (recovers f r w m n runs))
+        rw (same, is_whole) (recovers f r w m n runs)
     replayed (networks.Ask n k s fate) f r w m (runs, to_runs, same, is_whole) (unknown, other) =
-        subst (λ (s : SlotName). Replayed f (takes q w n (Asks s k) fate).network) (sym same)
-        (subst (λ (t : Fate). Replayed f (takes q w n (Asks slot k) t).network) (sym is_whole)
-        (asks f r w m n runs k to_runs unknown other))
-    replayed (networks.Deliver number fate) f r w m (later, is_whole, (d, at, runs)) brought =
-        subst (λ (o : Option Send). Replayed f (networks.arrives q w o fate).network) (sym at)
-        (subst (λ (t : Fate).
-        Replayed f (takes q w d.to (Arrives (Some d.message)) t).network) (sym is_whole)
-        (hears f r w m d.to runs d (sent_has number w.sent d at) refl))
+        rw (same, is_whole) (asks f r w m n runs k to_runs unknown other)
+    replayed (networks.Deliver number fate) f r w m (later, is_whole, (d, found, runs)) brought =
+        rw (found, is_whole) (hears f r w m d.to runs d (sent_has number w.sent d found) refl)
     replayed (networks.Propose n s fate) f r w m is_calm brought = absurd brought
-    replayed (networks.Deposit n s checked fate) f r w m is_calm brought = absurd is_calm
-    replayed (networks.Query n s) f r w m is_calm brought = absurd is_calm
-    replayed (networks.Raw n) f r w m is_calm brought = absurd is_calm
-    replayed (networks.Stop n) f r w m is_calm brought = absurd is_calm
+    replayed _ f r w m is_calm brought = absurd is_calm
