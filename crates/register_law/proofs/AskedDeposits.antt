@@ -10,11 +10,9 @@ use Rattle.bag_text.specs.Lines.{lines_of}
 use Rattle.bag_text.specs.Readers.{skip_blanks, trim_blanks, field_value, version_in, encoding_in}
 use Rattle.bag_text.specs.Readers.{files_from}
 use Rattle.bag_tree.specs.Facts.{FileFact, TreeFacts}
-use Rattle.bag_check.specs.Check.{check_of, identity_of, holds as has_fault}
-use Rattle.bag_check.specs.Manifests.{manifest_name, manifest_at, manifests_of}
-use Rattle.bag_check.specs.Manifests.{manifests_of_kind, is_manifest, is_known_manifest}
-use Rattle.bag_check.specs.Manifests.{is_known_of_kind, is_unknown}
-use Rattle.bag_check.specs.Check.{repeats}
+use Rattle.bag_check.specs.Check.{check_of, identity_of, holds as has_fault, repeats}
+use Rattle.bag_check.specs.Manifests.{manifest_name, manifest_at, manifests_of, manifests_of_kind}
+use Rattle.bag_check.specs.Manifests.{is_manifest, is_known_manifest, is_known_of_kind, is_unknown}
 use Rattle.dgram.specs.declared.body.Body.TheVariants.{Deposit}
 use Rattle.dgram.specs.declared.message.Message.{Message}
 use Rattle.dgram.specs.Encoding.{datagram_of}

@@ -1,6 +1,7 @@
 -- A run in which a register is decided, event by event, and a history that goes on from its cells.
 use Rattle.std.proofs.Common.{ℕ, ◌≡◌, inl, refl, true, List, [], ◌∷◌, ◌++◌, None, Some, arith}
 use Rattle.std.specs.Prelude.{Ok}
+use Rattle.std.specs.List.{fold}
 use Rattle.std.specs.Option.{option_to_list}
 use Rattle.fed_types.specs.declared.bag_id.BagId.{BagId}
 use Rattle.fed_types.specs.Lists.{Has, here, there, is_in}
@@ -17,9 +18,9 @@ use Rattle.schedule.specs.declared.fate.Fate.TheVariants.{Whole}
 use Rattle.lines.specs.declared.notice.Notice.{Notice}
 use Rattle.lines.specs.declared.notice.Notice.TheVariants.{Learned, Registered}
 use Rattle.world_law.specs.Laws.{notices_of, OnRecord}
-use Rattle.world_law.specs.Networks.{Network, Event, Deposit, Propose, Deliver, Up}
-use Rattle.world_law.specs.Networks.{new_site, new_network, outcome, happens, run, happening}
-use Rattle.world_law.specs.Networks.{goes_on, takes, datagram_at}
+use Rattle.world_law.specs.Networks.{Network, Event, Deposit, Propose, Deliver, Up, new_site}
+use Rattle.world_law.specs.Networks.{new_network, outcome, happens, run, happening, goes_on, takes}
+use Rattle.world_law.specs.Networks.{datagram_at}
 use Rattle.world_law.specs.Networks as networks
 use Rattle.world_law.specs.WellFormed.{AreWellFormedEvents}
 use Rattle.audit.specs.Evidence.{SiteRecord, network_of}
@@ -110,29 +111,13 @@ module _ (bag : BagId) (request : Request 7 a bag) where
         rw sent (does_whole w it.n volatile (calls.Arrives (Some (m it.body))) (comes_to it) member
         up (rw records (answers bag request turn)))
 
-  abbrev w3 : Network
-  w3 = (hearing h2.network Asked1).network
-
-  abbrev w4 : Network
-  w4 = (hearing w3 Asked2).network
-
-  abbrev w5 : Network
-  w5 = (hearing w4 Promised1).network
-
-  abbrev w6 : Network
-  w6 = (hearing w5 Promised2).network
-
-  abbrev w7 : Network
-  w7 = (hearing w6 Votes1).network
-
-  abbrev w8 : Network
-  w8 = (hearing w7 Votes2).network
-
-  abbrev w9 : Network
-  w9 = (hearing w8 Hears11).network
+  abbrev then : Network → Turn → Network
+  then w turn = (hearing w turn).network
 
   abbrev x : Network
-  x = (hearing w9 Hears12).network
+  x =
+      fold then h2.network
+      (Asked1 ∷ Asked2 ∷ Promised1 ∷ Promised2 ∷ Votes1 ∷ Votes2 ∷ Hears11 ∷ Hears12 ∷ [])
 
   abbrev delivers : List Event
   delivers =
@@ -148,14 +133,14 @@ module _ (bag : BagId) (request : Request 7 a bag) where
   delivered : Ran h2.network delivers x (Learned 1 a bag ∷ [])
   unfolding new_network new_site is_in sites_to
   delivered =
-      ran_more (hears_whole h2.network Asked1 1 refl refl refl refl) (
-      ran_more (hears_whole w3 Asked2 2 refl refl refl refl) (
-      ran_more (hears_whole w4 Promised1 4 refl refl refl refl) (
-      ran_more (hears_whole w5 Promised2 5 refl refl refl refl) (
-      ran_more (hears_whole w6 Votes1 6 refl refl refl refl) (
-      ran_more (hears_whole w7 Votes2 7 refl refl refl refl) (
-      ran_more (hears_whole w8 Hears11 9 refl refl refl refl) (
-      ran_more (hears_whole w9 Hears12 12 refl refl refl refl) (ran_none x))))))))
+      ran_more (hears_whole _ Asked1 1 refl refl refl refl) (
+      ran_more (hears_whole _ Asked2 2 refl refl refl refl) (
+      ran_more (hears_whole _ Promised1 4 refl refl refl refl) (
+      ran_more (hears_whole _ Promised2 5 refl refl refl refl) (
+      ran_more (hears_whole _ Votes1 6 refl refl refl refl) (
+      ran_more (hears_whole _ Votes2 7 refl refl refl refl) (
+      ran_more (hears_whole _ Hears11 9 refl refl refl refl) (
+      ran_more (hears_whole _ Hears12 12 refl refl refl refl) (ran_none _))))))))
 
   ran : Ran new_network events x said
   unfolding new_network new_site is_in sites_to happens

@@ -25,8 +25,8 @@ use Rattle.serving_law.proofs.Scene.{OnlyNow}
 use Rattle.register_law.specs.Carried.{IsHistoryAfter, left_by, said_in}
 use Rattle.register_law.specs.Laws.{AreOfCells, CarriedReportsAgree, CarriedAgreeWithTheRun}
 use Rattle.register_law.specs.Laws.{CarriedReportsWereDeposited, CellsHaveNoConflict}
-use Rattle.register_law.specs.Laws.{ChosenIsAllThatIsReported, RecordsStay}
-use Rattle.register_law.specs.Laws.{CarriedRegisteredStays, CarriedKnownStays}
+use Rattle.register_law.specs.Laws.{ChosenIsAllThatIsReported, RecordsStay, CarriedRegisteredStays}
+use Rattle.register_law.specs.Laws.{CarriedKnownStays}
 use Rattle.register_law.proofs.Led.{Setting, Led, led, in_federation}
 use Rattle.register_law.proofs.Refined.{next, reported_came, stays}
 use Rattle.register_law.proofs.Runs.{left_stands}

@@ -1,13 +1,12 @@
 -- Every federation keeps a register for each slot: votes can be counted.
-use Rattle.std.proofs.Common.{ℕ, ◌≡◌, ◌⊎◌, inl, inr, refl, ap, Bool, true, false, List, []}
-use Rattle.std.proofs.Common.{◌∷◌, Some}
+use Rattle.std.proofs.Common.{ℕ, ◌≡◌, ◌⊎◌, inl, inr, refl, ap, Bool, true, false, List, [], ◌∷◌}
+use Rattle.std.proofs.Common.{Some}
 use Rattle.fed_types.specs.declared.vote.Vote.{Vote}
 use Rattle.fed_types.specs.Lists.{Has, here, there}
 use Rattle.fed_types.specs.Quorums.{QuorumSystem, AreQuorums, IsQuorum, quorums_of}
 use Rattle.fed_types.specs.Sites.{Membership, members_of}
 use Rattle.fed_types.specs.Slots.{SlotName}
-use Rattle.fed_types.specs.Laws.Lists.{has_none, has_one, has_cases, has_filter_map}
-use Rattle.fed_types.specs.Laws.Lists.{filter_map_has}
+use Rattle.fed_types.specs.Laws.Lists.{has_none, has_one, has_cases, has_filter_map, filter_map_has}
 use Rattle.fed_types.specs.Laws.Quorums.{are_quorums}
 use Rattle.records.specs.declared.entry.Entry.{Entry}
 use Rattle.records.specs.declared.entry.Entry.TheVariants as entry

@@ -18,8 +18,8 @@ use Rattle.serving_law.proofs.AgreedTurns.{Asked2, answers, stands, fits}
 use Rattle.serving_law.proofs.Agreement.{three_are, m, Hearing, step_of, serves, takes}
 use Rattle.serving_law.proofs.NewSites.{may_start}
 use Rattle.serving_law.proofs.Tables.{tables}
-use Rattle.register_law.specs.Overlaps.{Moment, Begins, HandsOut, begun, at_member}
-use Rattle.register_law.specs.Overlaps.{MayHappenTo, IsAccount, AreInTime}
+use Rattle.register_law.specs.Overlaps.{Moment, Begins, HandsOut, begun, at_member, MayHappenTo}
+use Rattle.register_law.specs.Overlaps.{IsAccount, AreInTime}
 use Rattle.register_law.specs.ExamplesOverlapped.{at_first, Overlap, TurnsOverlap}
 
 module _ (bag : BagId) (request : Request 7 a bag) where

@@ -21,8 +21,7 @@ use Rattle.serving_law.proofs.Scene.{OnlyNow}
 use Rattle.serving_law.proofs.Networks.{HasDeposit, Stands}
 use Rattle.serving_law.proofs.Happenings.{Went, went}
 use Rattle.register_law.specs.Registers.{Register, Open, Decided, Becomes, Keeps, IsDecided}
-use Rattle.register_law.specs.Carried.{IsHistoryAfter, left_by, now, WasDepositedIn}
-use Rattle.register_law.specs.Carried.{WasDeposited}
+use Rattle.register_law.specs.Carried.{IsHistoryAfter, left_by, now, WasDepositedIn, WasDeposited}
 use Rattle.register_law.specs.Refinement.{KeepsOne, Begins, Steps, Refines, HistoriesRefine}
 use Rattle.register_law.proofs.Counted.{some_register}
 use Rattle.register_law.proofs.Led.{Setting, Led, led, may_both, after_both, in_federation}

@@ -21,8 +21,7 @@ use Rattle.world_law.proofs.Reports.{chosen_from}
 use Rattle.world_law.proofs.Runs.{DepositOf, happens_kept, new_kept, run_kept}
 use Rattle.world_law.proofs.WellFormed.{new_is_well_formed, run_well_formed, members_are_sites}
 use Rattle.serving_law.proofs.Networks.{quorums, Stands}
-use Rattle.register_law.specs.Carried.{datagram_for, left_by, WasDepositedIn}
-use Rattle.register_law.specs.Carried.{NewCellsAreLeftByNone}
+use Rattle.register_law.specs.Carried.{datagram_for, left_by, WasDepositedIn, NewCellsAreLeftByNone}
 use Rattle.serving_law.specs.Federations.{new_federation}
 use Rattle.register_law.proofs.Sayings.{run_speaks}
 use Rattle.register_law.specs.Laws.{ChosenRemains}
