@@ -35,7 +35,7 @@ use Rattle.site.specs.Answered.{Keeps, Gives}
 use Rattle.site.specs.Calls.{Input, Recovers, Arrives, effect_of, recovers_if, on_recover}
 use Rattle.site.specs.Calls.{begins_ballot}
 use Rattle.site.specs.Effects.{Effect, Send, refuses}
-use Rattle.site.specs.Sites.{Represents, effect}
+use Rattle.site.specs.Sites.{Represents}
 use Rattle.site.specs.Contents.{Contents}
 use Rattle.lines.specs.declared.notice.Notice.{Notice}
 use Rattle.lines.specs.declared.notice.Notice.TheVariants.{Refused}
@@ -342,25 +342,22 @@ module _ (members : Membership) (is_membership : IsMembership members) (addresse
         record {
           done = record { posts = []; notices = recovery_notices n (Recovers slot) (Err fault) };
           next = as_before;
-          comes = (Err fault, calls, refuses_so, refl);
+          comes = (
+            Err fault,
+            record {
+              answered = λ opened. rw same (record { keeps = refl; gives = gives });
+              refused = λ needs. absurd (cc needs);
+              volatile = refl;
+              idle = refl;
+              tried = refl;
+            },
+            λ opened other says. cc (same, says),
+            refl,
+          );
           not_the_last = rw silent;
           has_memory = λ k h. has_none (rw silent at h);
           opened = refl;
         }
-      where
-        calls : IsCalled device old (Recovers slot) (Err fault) as_before
-        calls = record {
-          answered = λ opened. rw same (record { keeps = refl; gives = gives });
-          refused = λ needs. absurd (cc needs);
-          volatile = refl;
-          idle = refl;
-          tried = refl;
-        }
-
-        refuses_so : old.site.book.needs_opening ≡ false → (other : SiteFault)
-            → (effect old.site volatile (Recovers slot)).says ≡ Err other
-            → ◌≡◌ {A = Result Answer SiteFault} (Err fault) (Err other)
-        refuses_so opened other says = cc (same, says)
 
     represented : Represents as_before.site volatile
     represented = (nothing, represents members n records volatile is)

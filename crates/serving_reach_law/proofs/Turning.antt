@@ -22,6 +22,7 @@ use Rattle.records.specs.declared.record.Record.{Record}
 use Rattle.records.specs.SlotStates.{vote_of, deposit_of, known_of}
 use Rattle.records.proofs.OneReading.{same_records_said}
 use Rattle.book.specs.OpenBooks.{OpenBook}
+use Rattle.dgram.specs.declared.body.Body.{Body}
 use Rattle.dgram.specs.declared.body.Body.TheVariants.{Ask, Query, Recover}
 use Rattle.dgram.specs.declared.message.Message.{Message}
 use Rattle.dgram.specs.Encoding.{datagram_of}
@@ -293,25 +294,26 @@ module _ {C : Type 0} (device : C → Device) (members : Membership)
               → Comes members addresses (drop before f.handed) n slot took → Replayed f x
           replayed_by may comes = inr (acts.Take n took, (runs, (old, serves), may, comes), done_by)
 
+        -- a client asks it for something of the slot
+        abbrev of_slot : Body → Message
+        of_slot body = record { slot = slot; body = body }
+
+        abbrev comes_as : Body → Taken
+        comes_as body = From 0 (datagram_of members.federation (of_slot body))
+
         -- ---- a client has it recover the slot
 
-        abbrev recover_message : Message
-        recover_message = record { slot = slot; body = Recover }
-
-        abbrev recover_comes : Taken
-        recover_comes = From 0 (datagram_of members.federation recover_message)
-
-        asks_recover : request_of members.federation recover_comes ≡ requests.Recovers slot
+        asks_recover : request_of members.federation (comes_as Recover) ≡ requests.Recovers slot
         asks_recover =
-            ap (request_in 0) (message_of-again members.federation recover_message (is_slot, tt))
+            ap (request_in 0) (message_of-again members.federation (of_slot Recover) (is_slot, tt))
 
         recovers_turn : (b : BallotNumber)
             → effect_at (Recovers slot) ≡ begins_ballot q slot b old.volatile
             → Replayed f (takes q w n (Recovers slot) Whole).network
         recovers_turn b e =
-            replayed_by recover_comes (requests.Recovers slot) asks_recover _
+            replayed_by (comes_as Recover) (requests.Recovers slot) asks_recover _
             (λ s t done.
-            called_turn recover_comes s t (Recovers slot)
+            called_turn (comes_as Recover) s t (Recovers slot)
             (recovery_notices (turns.number old) (Recovers slot)) done.0 done.1 done.3 refl refl
             is_slot None (rw e)) (
               recover_is_bytes members.federation slot is_slot,
@@ -335,15 +337,9 @@ module _ {C : Type 0} (device : C → Device) (members : Membership)
 
         -- ---- a client asks it for the slot's bag, and it asks the others
 
-        abbrev query_message : Message
-        query_message = record { slot = slot; body = Query }
-
-        abbrev query_comes : Taken
-        query_comes = From 0 (datagram_of members.federation query_message)
-
-        asks_query : request_of members.federation query_comes ≡ requests.Queries 0 slot
+        asks_query : request_of members.federation (comes_as Query) ≡ requests.Queries 0 slot
         asks_query =
-            ap (request_in 0) (message_of-again members.federation query_message (is_slot, tt))
+            ap (request_in 0) (message_of-again members.federation (of_slot Query) (is_slot, tt))
 
         asked_are : known_of slot records ≡ None → asked old (answer_to old slot)
             ≡ filter (λ (k : ℕ). not (k == n)) (members_of members)
@@ -412,11 +408,11 @@ module _ {C : Type 0} (device : C → Device) (members : Membership)
           asks_now : Replayed f (takes q w n (Asks slot k) Whole).network
           unfolding on_ask
           asks_now =
-              replayed_by query_comes (requests.Queries 0 slot) asks_query _
+              replayed_by (comes_as Query) (requests.Queries 0 slot) asks_query _
               (λ s t done.
               rw (takes_up members w n member (Asks slot k) records old.volatile is_here
               (commits_and_sends slot None (Ask n) (k ∷ []) old.volatile) refl)
-              (turned query_comes s t (records ++ []) old.volatile
+              (turned (comes_as Query) s t (records ++ []) old.volatile
               (to_each slot (Ask n) (k ∷ [])) (rw (done.3, append-nil records)) (rw done.3)
               (posted_question s (t.well.has_memory (turns.number old)) done))) (
                 query_is_bytes members.federation slot is_slot,
@@ -443,11 +439,12 @@ module _ {C : Type 0} (device : C → Device) (members : Membership)
               ∙ site_says 0 d.message d.message.body out.speaks
 
           may_hear : MayCome members f.handed (From 0 bytes)
-          may_hear = (
-            handed_is_bytes device members is_membership only_now since f r d.message out.is
-                out.speaks handed_here.0 (has_drop before f.handed handed_here.2),
-            λ message e is. (handed_here.0, has_drop before f.handed handed_here.2),
-          )
+          may_hear =
+              let handed = has_drop before f.handed handed_here.2 in (
+                handed_is_bytes device members is_membership only_now since f r d.message out.is
+                    out.speaks handed_here.0 handed,
+                λ message e is. (handed_here.0, handed),
+              )
 
           hears_now : Replayed f (takes q w n (Arrives (Some d.message)) Whole).network
           hears_now =
