@@ -1,5 +1,5 @@
 -- The turns of a batch happen one after another.
-use Rattle.std.proofs.Common.{◌≡◌, ℕ, false, List, [], ◌∷◌, ◌++◌, length, map, take, Some, Result}
+use Rattle.std.proofs.Common.{◌≡◌, ℕ, false, List, [], ◌∷◌, ◌++◌, length, map, Some, Result}
 use Rattle.std.proofs.Common.{refl, sym, ◌∙◌, append-nil, append_assoc, eq-eqb}
 use Rattle.std.proofs.Math.Seq.{take-length}
 use Rattle.fed_types.specs.Lists.{Has, here, there}
