@@ -1,6 +1,6 @@
 -- What is written after the rounds.
 use Rattle.std.proofs.Common.{◌≡◌, ℕ, ◌+◌, List, [], ◌∷◌, ◌++◌, length, take, drop, get_or}
-use Rattle.std.proofs.Common.{Option, Result, Ok, Err, refl, append-nil, inl}
+use Rattle.std.proofs.Common.{Option, Result, Ok, Err, refl, append-nil}
 use Rattle.std.proofs.Common.{inr, ◌<◌, true, false}
 use Rattle.std.proofs.KnownBytes.{Appends-trans}
 use Rattle.std.proofs.lemmas.List.{take_more, take-append-drop}
@@ -14,7 +14,7 @@ use Rattle.outcomes.specs.Outcomes.{Outcome, no_memory}
 use Rattle.udp_site.specs.Traffic.{Move}
 use Rattle.site_client.specs.Answers.{IsWritten}
 use Rattle.catch_up.specs.declared.said_answers.AskFault.{AskFault}
-use Rattle.catch_up.specs.declared.said_answers.AskFault.TheVariants.{Memory, Output}
+use Rattle.catch_up.specs.declared.said_answers.AskFault.TheVariants.{Memory}
 use Rattle.catch_up.specs.declared.rounds.Target.{Target}
 use Rattle.catch_up.specs.Lines.{open_line, count_line}
 use Rattle.catch_up.specs.Rounds.{open_of, last_round}
@@ -146,24 +146,6 @@ then_memory outcome o n p count (Err fault) part ok err =
 
 module _ (s : ℕ) (asked : Target) (vs : List KnownBag) (t u : Option (List Beat))
     (a b : Option (List Move)) (o n : Option (List ℕ)) where
-  pub ended : (status : ℕ) → AreReported s asked vs t u a b o n (Ok status)
-      → IsCaughtUp s asked vs t u a b o n (Ok status)
-  ended status (rounds, moves, grows, are, whole, is, lines) =
-      inl (rounds, moves, grows, are, whole, tt, (is, lines))
-
-  pub output_failed : AreReported s asked vs t u a b o n (Err Output)
-      → IsCaughtUp s asked vs t u a b o n (Err faults.Output)
-  output_failed (rounds, moves, others, grows, are, only, part, paced) =
-      inl (
-        rounds,
-        moves,
-        rw (only, append-nil moves) at grows,
-        are,
-        tt,
-        paced,
-        (refl, part),
-      )
-
   pub memory_ran_out : (p : Option (List ℕ)) (result : Result ℕ ProgramFault)
       → AreReported s asked vs t u a b o n (Err Memory)
       → IfOk result (λ given. (given ≡ 1) × Appends n p no_memory.text)

@@ -8,7 +8,7 @@ use Rattle.catch_up.proofs.rounds.ask_version.Goals as goal
 pub returns-in_err-bag-clause-asked : goal.returns-in_err-bag-clause-asked
 returns-in_err-bag-clause-asked g c =
     rw (is_err c.from_residual.result _ c.from_residual.ensures.1)
-    (search (no_answer, c.in_err-bag.ensures))
+    (no_answer c.args.asked.now c.args.version.now _ _ _ _ c.in_err-bag.ensures)
 
 pub returns-in_default-clause-asked : goal.returns-in_default-clause-asked
 returns-in_default-clause-asked g c =
