@@ -1,6 +1,6 @@
 -- How deposits stand with a site that has to be opened again, and whom the rounds ask, computed.
 use Rattle.std.proofs.Common.{◌≡◌, ℕ, zero, suc, List, [], ◌∷◌, ◌++◌, Option, Some, None}
-use Rattle.std.proofs.Common.{refl, sym, ap, inl, inr, append-nil}
+use Rattle.std.proofs.Common.{refl, sym, inl, inr, append-nil}
 use Rattle.dgram.specs.declared.answers.QueryAnswer.TheVariants as query
 use Rattle.fed_types.specs.declared.bag_id.BagId.{BagId}
 use Rattle.fed_types.specs.Slots.{SlotName}
@@ -141,20 +141,8 @@ no_reply q first (Some post) = refl
 
 step : (rounds : ℕ) → IsStep (in_round asked rounds) waiting waiting (asks rounds)
 step rounds =
-    let first : Post = (7002, datagram_to (q rounds) None) in
-    inr (
-      refl,
-      (
-        (
-          [],
-          ap (λ (moves : List Move). Handed first ∷ moves)
-              (sym (append-nil (handed_if (recovery_of (q rounds))))),
-          tt,
-        ),
-        ap (λ r. record waiting { standing = after Unanswered r })
-            (sym (no_reply (q rounds) first (recovery_of (q rounds)))),
-      ),
-    )
+    let none = no_reply (q rounds) (7002, datagram_to (q rounds) None) (recovery_of (q rounds)) in
+    inr (refl, (([], rw append-nil, tt), rw none))
 
 -- the round after so many asks so
 a_round : (rounds : ℕ)

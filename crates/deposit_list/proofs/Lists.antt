@@ -16,7 +16,7 @@ use Rattle.slot_table.specs.Listings.{AreListed}
 use Rattle.slot_table.specs.Rows.{Rows, row_at}
 use Rattle.deposit_list.specs.declared.deposit.Deposit.{Deposit}
 use Rattle.deposit_list.specs.Lists.{deposit_of, is_line, are_lines, slots_of, has_slot, repeats}
-use Rattle.deposit_list.specs.Lists.{is_of_one, may_follow, ListHas, HasOtherLine}
+use Rattle.deposit_list.specs.Lists.{is_of_one, may_follow, HasOtherLine}
 
 single : {Y : Type 0} (o : Option Y) → cons_option o [] ≡ option_to_list o
 single None = refl
@@ -96,16 +96,6 @@ pub record IsRead (text rest : List ℕ) (number : ℕ) (found : List Deposit) :
   pub deposits_are : found ≡ filter_map deposit_of done
   pub short : number + length rest ≤ length text + 1
 
-pub none_read : (text : List ℕ) → IsRead text text 1 []
-none_read text = record {
-  done = [];
-  lines_are = refl;
-  number_is = refl;
-  fine = refl;
-  deposits_are = refl;
-  short = omega arith;
-}
-
 -- whether the lines are fine with one more
 with_next : (done : List (List ℕ)) (line : List ℕ) (found : List Deposit) (b : Bool)
     → are_lines done ≡ true → found ≡ filter_map deposit_of done → may_follow found line ≡ b
@@ -124,12 +114,6 @@ next_line text rest line after number mid new read first shorter is deposits = r
   deposits_are = rw (deposits, read.deposits_are) (one_more read.done line);
   short = omega (arith, read.short, shorter);
 }
-
-pub all_read : (text rest : List ℕ) (number : ℕ) (found : List Deposit)
-    → IsRead text rest number found → lines rest ≡ [] → ListHas text found
-all_read text rest number found read none =
-    let all : lines text ≡ read.done = rw (read.lines_are, none, append-nil) in
-    (rw all read.fine, rw all read.deposits_are)
 
 pub other_line : (text rest line after : List ℕ) (number : ℕ) (found : List Deposit)
     → IsRead text rest number found → lines rest ≡ line ∷ lines after

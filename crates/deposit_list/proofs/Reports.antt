@@ -1,6 +1,6 @@
 -- What is written of deposits.
 use Rattle.std.proofs.Common.{◌≡◌, ℕ, ◌+◌, ◌<◌, ◌≤◌, List, [], ◌∷◌, ◌++◌, length, take, drop}
-use Rattle.std.proofs.Common.{get_or, min, arith, Option, Result, Ok, Err, refl, sym, append-nil}
+use Rattle.std.proofs.Common.{get_or, min, arith, Option, Result, Ok, Err, refl, append-nil}
 use Rattle.std.proofs.Common.{inl, inr}
 use Rattle.std.proofs.KnownBytes.{Appends-trans}
 use Rattle.std.proofs.lemmas.List.{take_more, take-append-drop}
@@ -173,57 +173,6 @@ module _ (aim : Aim) (asked : Target) (deposits : List Deposit) (t v : Option (L
 
 module _ (aim : Aim) (asked : Target) (deposits : List Deposit) (t u : Option (List Beat))
     (a b : Option (List Move)) (o n : Option (List ℕ)) where
-  pub ended : (status : ℕ) → AreReported aim asked deposits t u a b o n (Ok status)
-      → AreSent aim asked deposits t u a b o n (Ok status)
-  ended status (windows, entries, moves, beats, grows, beaten, are, is, lines) =
-      inl (
-        windows,
-        deposits,
-        [],
-        entries,
-        moves,
-        beats,
-        grows,
-        beaten,
-        sym (append-nil deposits),
-        refl,
-        are,
-        (is, lines),
-      )
-
-  pub output_failed : AreReported aim asked deposits t u a b o n (Err Output)
-      → AreSent aim asked deposits t u a b o n (Err faults.Output)
-  output_failed (
-    windows,
-    sent,
-    rest,
-    entries,
-    moves,
-    others,
-    beats,
-    later,
-    grows,
-    beaten,
-    all,
-    are,
-    (none, idle),
-    part,
-  ) =
-      inl (
-        windows,
-        sent,
-        rest,
-        entries,
-        moves,
-        beats,
-        rw (none, append-nil moves) at grows,
-        rw (idle, append-nil beats) at beaten,
-        all,
-        tt,
-        are,
-        (refl, part),
-      )
-
   pub memory_ran_out : (p : Option (List ℕ)) (result : Result ℕ ProgramFault)
       → AreReported aim asked deposits t u a b o n (Err Memory)
       → IfOk result (λ given. (given ≡ 1) × Appends n p no_memory.text)

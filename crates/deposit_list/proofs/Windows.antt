@@ -137,7 +137,7 @@ none_left (d ∷ rest) is =
     let long : suc (length rest) ≡ 0 = eqb-true (suc (length rest)) 0 (sym is) in
     absurd (omega arith)
 
-pub some_left : (rest : List Deposit) → false ≡ eqb (length rest) 0 → rest ≢ []
+some_left : (rest : List Deposit) → false ≡ eqb (length rest) 0 → rest ≢ []
 some_left rest is none = absurd (cc (rw none at is))
 
 some_first : (rest : List Deposit) → rest ≢ [] → 1 ≤ length rest
@@ -148,16 +148,17 @@ module _ (aim : Aim) (asked : Target) (deposits : List Deposit) (t u v : Option 
     (a b c : Option (List Move)) (o n : Option (List ℕ)) where
   -- a window more
   pub one_more_window : (rest window after : List Deposit) (reached : ℕ)
-      (now : Vec Entry Global) → rest ≢ [] → rest ≡ window ++ after
+      (now : Vec Entry Global) → false ≡ eqb (length rest) 0 → rest ≡ window ++ after
       → length window ≡ min (window_size aim) (length rest)
       → AreSentTo aim asked deposits rest reached t u a b o n
       → IsWindowAsked aim asked window u v b c (Ok now)
       → AreSentBut aim asked deposits after (reached + reached_in aim now.items) now.items t v a c
       o n
-  one_more_window rest window after reached now some parts long
+  one_more_window rest window after reached now more parts long
       (windows, sent, entries, all, full, counted, equal, (moves, beats, grows, beaten, are, said))
       (last, others, goes, waits, its, count) =
       let size = some_size aim in
+      let some = some_left rest more in
       let first = some_first rest some in
       let whole : length sent ≡ windows * window_size aim =
       elim full [ inl none ↦ absurd (some none) | inr whole ↦ whole ] in

@@ -1,7 +1,7 @@
 use Rattle.std.proofs.Common.{arith, refl, ◌∙◌}
 use Rattle.udp_site.proofs.Handed.{is_err}
 use Rattle.deposit_list.proofs.Windows.{none_sent, one_more_window, lines_written, no_overflow}
-use Rattle.deposit_list.proofs.Windows.{none_left, some_left}
+use Rattle.deposit_list.proofs.Windows.{none_left}
 use Rattle.deposit_list.proofs.Reports.{window_stopped, lines_stopped, counted_all}
 use Rattle.deposit_list.proofs.send_all.send_windows.Goals as goal
 
@@ -26,9 +26,8 @@ returns-in_err-write_lines-clause-sent g c =
     c.split_at.result.1.now _ c.in_ok-entries.entries.items _ c.in_err-write_lines.field-0.0
     (one_more_window c.args.aim c.args.asked.now c.args.deposits.now _ _ _ _ _ _ _ _
     c.loop-rest.rest.now c.split_at.result.0.now c.split_at.result.1.now c.loop-rest.reached
-    c.in_ok-entries.entries (some_left c.loop-rest.rest.now c.loop-rest-test.ensures)
-    c.split_at.ensures.by_index.0 (rw c.window_size-size.ensures at long)
-    c.loop-rest.invariant.0 c.in_ok-entries.ensures)
+    c.in_ok-entries.entries c.loop-rest-test.ensures c.split_at.ensures.by_index.0
+    (rw c.window_size-size.ensures at long) c.loop-rest.invariant.0 c.in_ok-entries.ensures)
     (rw c.as_slice.ensures.value at c.in_err-write_lines.ensures.err))
 
 pub overflow_add-reached : goal.overflow_add-reached
@@ -41,8 +40,7 @@ overflow_add-reached g c =
           c.in_ok-entries.entries.items _ _ _ _ _ _
           (one_more_window c.args.aim c.args.asked.now c.args.deposits.now _ _ _ _ _ _ _ _
           c.loop-rest.rest.now c.split_at.result.0.now c.split_at.result.1.now
-          c.loop-rest.reached c.in_ok-entries.entries
-          (some_left c.loop-rest.rest.now c.loop-rest-test.ensures)
+          c.loop-rest.reached c.in_ok-entries.entries c.loop-rest-test.ensures
           c.split_at.ensures.by_index.0 (rw c.window_size-size.ensures at long)
           c.loop-rest.invariant.0 c.in_ok-entries.ensures),
     )
@@ -56,8 +54,7 @@ loop-rest-preserved g c =
           (rw c.as_slice.ensures.value at c.in_ok-write_lines.ensures.ok)
           (one_more_window c.args.aim c.args.asked.now c.args.deposits.now _ _ _ _ _ _ _ _
           c.loop-rest.rest.now c.split_at.result.0.now c.split_at.result.1.now
-          c.loop-rest.reached c.in_ok-entries.entries
-          (some_left c.loop-rest.rest.now c.loop-rest-test.ensures)
+          c.loop-rest.reached c.in_ok-entries.entries c.loop-rest-test.ensures
           c.split_at.ensures.by_index.0 (rw c.window_size-size.ensures at long)
           c.loop-rest.invariant.0 c.in_ok-entries.ensures)),
       c.in_ok-write_lines.ensures.cause.same (λ is. absurd (cc is)) ∙ c.loop-rest.invariant.1,
