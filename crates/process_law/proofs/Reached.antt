@@ -1,21 +1,16 @@
 -- A process that has served has come so far.
-use Rattle.std.proofs.Common.{◌≡◌, ◌⊎◌, inl, inr, ℕ, List, [], ◌∷◌, ◌++◌, length, take, map, Option}
-use Rattle.std.proofs.Common.{◌≤◌, Bool, true, false, refl, sym, ap, subst, ◌∙◌, append-nil}
-use Rattle.std.proofs.Common.{append_assoc, arith}
+use Rattle.std.proofs.Common.{◌≡◌, inl, inr, ℕ, List, [], ◌∷◌, ◌++◌, length, take, map, ◌≤◌, Bool}
+use Rattle.std.proofs.Common.{true, false, refl, append-nil, append_assoc, arith}
 use Rattle.std.specs.Prelude.{Result, Ok, Err, IsSome}
 use Rattle.std.specs.List.{flat_map}
-use Rattle.std.specs.Io.KnownBytes.{Appends}
 use Rattle.std.proofs.Math.Seq.{take-length}
 use Rattle.std.proofs.lemmas.List.{take-map}
 use Rattle.std.proofs.lemmas.List.Concat.{flat_map-append}
-use Rattle.bag_tree.specs.declared.fault.TreeFault.{TreeFault}
-use Rattle.bag_tree.specs.Facts.{TreeFacts}
 use Rattle.fed_types.specs.Sites.{Membership}
 use Rattle.cell_device.specs.Devices.{Device}
 use Rattle.cell_device.specs.Images.{MayLeave}
 use Rattle.records.specs.declared.owner.Owner.{Owner}
 use Rattle.records.specs.declared.record.Record.{Record}
-use Rattle.outcomes.specs.declared.fault.ProgramFault.{ProgramFault}
 use Rattle.outcomes.proofs.KnownBytes.{Appends-trans}
 use Rattle.book.specs.declared.fault.CommitFault.{CommitFault}
 use Rattle.book.specs.declared.fault.CommitFault.TheVariants as commits
@@ -25,7 +20,7 @@ use Rattle.proposer.specs.VolatileStates.{new_volatile}
 use Rattle.site.specs.Batches.{no_cell}
 use Rattle.udp_site.specs.declared.fault.ServeFault.{ServeFault}
 use Rattle.udp_site.specs.declared.fault.ServeFault.TheVariants as faults
-use Rattle.udp_site.specs.Traffic.{Move, Took, Failed, Handed, Taken, Post, Grows, all_handed}
+use Rattle.udp_site.specs.Traffic.{Move, Took, Failed, Handed, Taken, Post, all_handed}
 use Rattle.udp_site.specs.Turns.{turn_of}
 use Rattle.udp_site.specs.Served.{Rule, Outside}
 use Rattle.udp_site.specs.BatchTurns as batch
@@ -33,14 +28,11 @@ use Rattle.udp_site.specs.BatchTurns.{Batch, Batching, Batches, Lead, Shows, Ser
 use Rattle.udp_site.specs.BatchTurns.{begins_with, moves_in, moves_of, posts_of, text_of_all}
 use Rattle.udp_site.specs.BatchTurns.{took_by, refusals, refusal_of, refusal_text}
 use Rattle.udp_site.proofs.Growth.{Grows-trans, Grows-none, Appends-none}
-use Rattle.site_commands.specs.declared.site_arguments.Turns.{Turns}
-use Rattle.site_commands.specs.Services.{GoesOn, ServesOn, HasServed, turns_in, most_calls}
-use Rattle.site_commands.specs.Services.{goes_on_from}
+use Rattle.site_commands.specs.Services.{GoesOn, ServesOn, turns_in, most_calls, goes_on_from}
 use Rattle.serving_law.specs.Rules.{MayRecoverTo, owner_of}
 use Rattle.serving_law.proofs.Scene.{OnlyNow}
-use Rattle.process_law.specs.Processes.{Last, Quiet, Unsynced, Synced, IsLast, WentOn, HasCome}
-use Rattle.process_law.specs.Processes.{all_batches, handed_by, last_moves, last_text}
-use Rattle.process_law.specs.Processes.{ProcessesComeSoFar}
+use Rattle.process_law.specs.Processes.{Last, Quiet, Unsynced, Synced, IsLast, WentOn, all_batches}
+use Rattle.process_law.specs.Processes.{handed_by, last_moves, last_text, ProcessesComeSoFar}
 
 -- this moment of a device is one of those since an earlier one
 abbrev pub CountsNow : {C : Type 0} → (C → Device) → Type 0
@@ -115,8 +107,9 @@ module _ {C : Type 0} (device : C → Device) (rule : Rule Waiting) (owner : Own
     shows : Shows before after (all_batches calls ++ batches) (last_moves last) (last_text last)
 
   module _ (wanted : ℕ) (before between after : Outside) (start here end : Batching C)
-      (calls : List (List Batch)) (goes_on : GoesOn device rule wanted before between start here calls)
-      (batches : List Batch) (left : List Record) (may : Left end.held end.held left) where
+      (calls : List (List Batch))
+      (goes_on : GoesOn device rule wanted before between start here calls) (batches : List Batch)
+      (left : List Record) (may : Left end.held end.held left) where
     abbrev Reaches : Type 0
     Reaches = Reach before after start calls left
 
