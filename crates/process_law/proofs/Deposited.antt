@@ -1,27 +1,25 @@
 -- A process that takes a deposit, over a new disk.
-use Rattle.std.proofs.Common.{◌≡◌, ℕ, inl, inr, refl, sym, ap, subst, ◌∙◌, true, false, List, []}
-use Rattle.std.proofs.Common.{◌∷◌, ◌++◌, append-nil, None, Some, arith}
-use Rattle.std.specs.Prelude.{Result, Ok, IsSome}
+use Rattle.std.proofs.Common.{◌≡◌, ℕ, inl, inr, refl, false, List, [], ◌∷◌, ◌++◌, append-nil, Some}
+use Rattle.std.proofs.Common.{arith}
+use Rattle.std.specs.Prelude.{Result, Ok}
 use Rattle.bag_tree.specs.declared.fault.TreeFault.{TreeFault}
 use Rattle.bag_tree.specs.Facts.{TreeFacts}
 use Rattle.fed_types.specs.declared.bag_id.BagId.{BagId}
-use Rattle.fed_types.specs.Lists.{is_in}
 use Rattle.fed_types.specs.Sites.{Membership, members_of}
 use Rattle.fed_types.specs.Slots.{SlotName}
 use Rattle.fed_types.specs.Values.{IsMembership}
 use Rattle.fed_types.specs.Laws.Lists.{is_in_decides}
-use Rattle.cell_device.specs.declared.fuse.FuseState.{FuseState}
 use Rattle.cell_device.specs.declared.fuse.FuseState.TheVariants.{Clear}
 use Rattle.cell_device.specs.Images.{at_rest}
-use Rattle.cell_device.specs.States.{IsIn, state_of, after_call}
+use Rattle.cell_device.specs.States.{after_call}
 use Rattle.lines.specs.declared.notice.Notice.TheVariants.{Registered}
 use Rattle.records.specs.declared.owner.Owner.{Owner}
 use Rattle.records.specs.declared.record.Record.{Record}
 use Rattle.records.specs.Records.{IsRecord}
 use Rattle.records.proofs.Texts.{nothing_says}
 use Rattle.book.specs.declared.waiting.Waiting.{Waiting}
-use Rattle.book.specs.Batches.{BatchCell, Syncs, keeps_nothing}
-use Rattle.book.specs.Committed.{Commits, CameOut, commit_outcome, after_commit}
+use Rattle.book.specs.Batches.{BatchCell, Syncs}
+use Rattle.book.specs.Committed.{Commits}
 use Rattle.book.specs.OpenBooks.{OpenBook}
 use Rattle.records.specs.SlotStates.{known_of, used_of}
 use Rattle.dgram.specs.Heard.{bodies_of, floor_of, voters_for}
@@ -29,21 +27,18 @@ use Rattle.learner.specs.declared.row.Row.TheVariants as rows
 use Rattle.proposer.specs.Rows.{empty_row}
 use Rattle.proposer.specs.UnderWay.{nothing}
 use Rattle.proposer.specs.VolatileStates.{new_volatile}
-use Rattle.site.specs.Answered.{IsAnswered}
 use Rattle.site.specs.Batches.{no_cell}
 use Rattle.site.specs.Calls as calls
-use Rattle.site.specs.Effects.{Effect}
 use Rattle.site.specs.Sites.{OpenSite}
 use Rattle.site.specs.Contents.{Represents}
 use Rattle.bag_check.specs.Check.{check_of}
 use Rattle.udp_site.specs.BatchTurns.{Batch, Batching, Batches, Shows, begins_with}
-use Rattle.udp_site.specs.Requests as requests
 use Rattle.udp_site.specs.Served.{notice_text}
 use Rattle.udp_site.specs.Traffic.{From, all_handed}
-use Rattle.udp_site.specs.Turns.{Serving, Done, IsCalled, begins, turn_of, comes_of}
+use Rattle.udp_site.specs.Turns.{Serving, Done, IsCalled, begins, turn_of}
 use Rattle.site_commands.specs.Services.{ServedBy, IsParted}
 use Rattle.site_commands.specs.declared.site_arguments.Turns.TheVariants.{Count}
-use Rattle.serving_law.specs.Disks.{Disk, Blank, Holds, device, journal}
+use Rattle.serving_law.specs.Disks.{Disk, Holds, device, journal}
 use Rattle.serving_law.specs.Examples.{Request, recorded}
 use Rattle.serving_law.proofs.Answers.{seals_are}
 use Rattle.serving_law.proofs.Deaths as deaths
@@ -77,17 +72,11 @@ commits_waiting whose r = record {
     before = λ t c within left. inl tt;
   };
   cause = record { later = omega arith; failed = λ e. absurd (cc e); same = λ other. refl };
-  fuse = λ f e.
-      subst (λ (g : FuseState). CameOut (commit_outcome g [] r) whose (Ok tt) keeps_nothing
-      keeps_nothing) (clear f e) (refl, refl);
+  fuse = λ f e. let is : f ≡ Clear = cc e in rw is (refl, refl);
   calls = λ f e.
-      subst (λ (g : FuseState). IsIn (after_commit r (Ok tt) (state_of keeps_nothing g))
-      keeps_nothing) (clear f e) (record { image = refl; fuse = refl; failures = refl });
+      let is : f ≡ Clear = cc e in rw is (record { image = refl; fuse = refl; failures = refl });
   whose = refl;
 }
-  where
-    clear : (f : FuseState) → Some Clear ≡ Some f → Clear ≡ f
-    clear f e = cc
 
 -- and then it is synced on the disk
 synced : (whose : Owner) (r : Record)
@@ -117,6 +106,10 @@ synced whose r does = record {
   nothing = λ none. absurd (cc none);
   whose = refl;
 }
+
+-- a line that alone is written
+it_alone : (line : List ℕ) → line ≡ (((line ++ []) ++ []) ++ []) ++ []
+it_alone line = simp append-nil
 
 module _ (members : Membership) (is_membership : IsMembership members) (slot : SlotName)
     (bag : BagId) (request : Request members.federation slot bag) where
@@ -195,8 +188,7 @@ module _ (members : Membership) (is_membership : IsMembership members) (slot : S
   called =
       let is = deaths.effect_is members is_membership slot bag request in record {
         answered = λ opened.
-            subst (λ (e : Effect). IsAnswered no_cell (site []) (site (r ∷ [])) new_volatile e
-            (Ok (deaths.answer members is_membership slot bag))) (sym is) (record {
+            rw is (record {
               keeps = inr (commits_waiting its r);
               gives = (
                 refl,
@@ -205,15 +197,14 @@ module _ (members : Membership) (is_membership : IsMembership members) (slot : S
               );
             });
         refused = λ needs. absurd (cc needs);
-        volatile = ap (λ (e : Effect). e.volatile) (sym is);
+        volatile = rw is;
         idle = refl;
         tried = refl;
       }
 
   comes : turn_of no_cell [] (Some folders) old (From request.address request.bytes) done new
   comes =
-      subst (λ (q : requests.Request). comes_of no_cell [] (Some folders) old q done new)
-      (sym request.asked)
+      rw request.asked
       (Ok request.facts, refl, (Ok (deaths.answer members is_membership slot bag), called, refl))
 
   -- ---- its batch
@@ -235,18 +226,9 @@ module _ (members : Membership) (is_membership : IsMembership members) (slot : S
     };
   }
 
-  abbrev line : List ℕ
-  line = notice_text (Registered 1 slot bag)
-
-  -- it alone is written
-  text_is : line ≡ (((line ++ []) ++ []) ++ []) ++ []
-  text_is =
-      sym (append-nil (((line ++ []) ++ []) ++ []) ∙ append-nil ((line ++ []) ++ [])
-      ∙ append-nil (line ++ []) ∙ append-nil line)
-
   shows : Shows nothing_yet (all_done members slot bag request) (batch ∷ []) [] []
   unfolding all_handed
-  shows = (refl, text_is)
+  shows = (refl, it_alone (notice_text (Registered 1 slot bag)))
 
   abbrev serves : ServedBy device (turn_of no_cell [] (Some folders)) (Count 1) nothing_yet
       (all_done members slot bag request) start (Ok 0)
