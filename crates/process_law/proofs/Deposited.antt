@@ -33,11 +33,9 @@ use Rattle.site.specs.Sites.{OpenSite}
 use Rattle.site.specs.Contents.{Represents}
 use Rattle.bag_check.specs.Check.{check_of}
 use Rattle.udp_site.specs.BatchTurns.{Batch, Batching, Batches, Shows, begins_with}
-use Rattle.udp_site.specs.Served.{notice_text}
+use Rattle.udp_site.specs.Served.{Outside, notice_text}
 use Rattle.udp_site.specs.Traffic.{From, all_handed}
-use Rattle.udp_site.specs.Turns.{Serving, Done, IsCalled, begins, turn_of}
-use Rattle.site_commands.specs.Services.{ServedBy, IsParted}
-use Rattle.site_commands.specs.declared.site_arguments.Turns.TheVariants.{Count}
+use Rattle.udp_site.specs.Turns.{Done, IsCalled, turn_of}
 use Rattle.serving_law.specs.Disks.{Disk, Holds, device, journal}
 use Rattle.serving_law.specs.Examples.{Request, recorded}
 use Rattle.serving_law.proofs.Answers.{seals_are}
@@ -164,27 +162,10 @@ module _ (members : Membership) (is_membership : IsMembership members) (slot : S
       (record { used = refl; floor = refl; begun = refl; current = tt; waiting = refl })
       refl (λ none vote n. refl)
 
-  pub parted : IsParted opened (site []) (held [] 0)
-  parted = record {
-    records = refl;
-    owner = refl;
-    waits = refl;
-    represents = (nothing, first_stands);
-    cell = refl;
-    synced = refl;
-    needs_opening = refl;
-  }
-
   -- ---- its turn
 
-  abbrev old : Serving Waiting
-  old = begins (site []) new_volatile
-
-  abbrev new : Serving Waiting
-  new = begins (site (r ∷ [])) new_volatile
-
-  called : IsCalled no_cell old (calls.Deposits slot (check_of request.facts))
-      (Ok (deaths.answer members is_membership slot bag)) new
+  called : IsCalled no_cell start.serving (calls.Deposits slot (check_of request.facts))
+      (Ok (deaths.answer members is_membership slot bag)) end.serving
   called =
       let is = deaths.effect_is members is_membership slot bag request in record {
         answered = λ opened.
@@ -202,7 +183,8 @@ module _ (members : Membership) (is_membership : IsMembership members) (slot : S
         tried = refl;
       }
 
-  comes : turn_of no_cell [] (Some folders) old (From request.address request.bytes) done new
+  comes : turn_of no_cell [] (Some folders) start.serving (From request.address request.bytes) done
+      end.serving
   comes =
       rw request.asked
       (Ok request.facts, refl, (Ok (deaths.answer members is_membership slot bag), called, refl))
@@ -219,36 +201,19 @@ module _ (members : Membership) (is_membership : IsMembership members) (slot : S
   made = record {
     took = refl;
     together = omega arith;
-    follow = (new, comes, refl);
+    follow = (end.serving, comes, refl);
     synced = record {
       syncs = λ opened. synced its r (commits its is_membership.1 [] tt r is_record);
       needs_open = λ shut. absurd (cc shut);
     };
   }
 
-  shows : Shows nothing_yet (all_done members slot bag request) (batch ∷ []) [] []
+  abbrev ended : Outside
+  ended = all_done members slot bag request
+
+  shows : Shows nothing_yet ended (batch ∷ []) [] []
   unfolding all_handed
   shows = (refl, it_alone (notice_text (Registered 1 slot bag)))
-
-  abbrev serves : ServedBy device (turn_of no_cell [] (Some folders)) (Count 1) nothing_yet
-      (all_done members slot bag request) start (Ok 0)
-  serves = record {
-    end = end;
-    calls = (batch ∷ []) ∷ [];
-    result = Ok tt;
-    ended = all_done members slot bag request;
-    serves = (
-      refl,
-      (
-        end,
-        all_done members slot bag request,
-        (refl, refl, ((end, made, refl), shows)),
-        (refl, refl),
-      ),
-    );
-    still = refl;
-    concluded = (refl, refl);
-  }
 
   pub takes_a_deposit : TakesADeposit members slot bag request
   takes_a_deposit = record {
@@ -264,8 +229,24 @@ module _ (members : Membership) (is_membership : IsMembership members) (slot : S
       opens = opens_new its is_membership.1;
       site = site [];
       held = held [] 0;
-      parted = parted;
-      served = serves;
+      parted = record {
+        records = refl;
+        owner = refl;
+        waits = refl;
+        represents = (nothing, first_stands);
+        cell = refl;
+        synced = refl;
+        needs_opening = refl;
+      };
+      served = record {
+        end = end;
+        calls = (batch ∷ []) ∷ [];
+        result = Ok tt;
+        ended = ended;
+        serves = (refl, (end, ended, (refl, refl, ((end, made, refl), shows)), (refl, refl)));
+        still = refl;
+        concluded = (refl, refl);
+      };
     };
     recovers = record {
       told = refl;
