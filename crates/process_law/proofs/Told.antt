@@ -29,12 +29,14 @@ use Rattle.serving_law.specs.Federations.{Member, Serves, Down, Step, Happening,
 use Rattle.serving_law.specs.Federations.{Renews}
 use Rattle.serving_law.specs.Rules.{owner_of}
 use Rattle.serving_law.proofs.Happenings.{HasFolders, with_folders}
-use Rattle.register_law.specs.Overlaps.{IsAccount}
+use Rattle.serving_law.specs.Reports.{showing_of, step_of}
+use Rattle.register_law.specs.Overlaps.{IsAccount, MayHappenTo, own_after, handed_out}
 use Rattle.batch_law.specs.OnDisks.{on_disk}
 use Rattle.batch_law.proofs.DiskTurns.{turn_on}
 use Rattle.batch_law.proofs.UnseenTurns.{recovers}
 use Rattle.batch_law.proofs.WholeBatches.{first_are}
-use Rattle.process_law.specs.Processes.{turns_in, posts_in, text_in, after_account, IsOf}
+use Rattle.process_law.specs.Processes.{turn_shown, text_shown, turns_in, posts_in, text_in}
+use Rattle.process_law.specs.Processes.{after_account, IsOf}
 use Rattle.process_law.proofs.Takes.{take_both}
 
 -- which member serves, with which addresses, and what its folders give
@@ -73,45 +75,57 @@ module _ (its : Service) where
   before h account is are k (here e) = rw (← e) is
   before h account is are k (there among) = are k among
 
+  longer : (m : Member Disk) (h : Happening Disk) → MayHappenTo device its.members m h
+      → IsOf its.members its.n its.addresses its.gives h
+      → {left : List Record} {turns : List Turned} {posts : List Post} {text : List ℕ}
+      → Rest (own_after m h) left turns posts text
+      → Rest m left (turn_shown (step_of h) ++ turns) (handed_out h ++ posts)
+      (text_shown (showing_of h) ++ text)
+  unfolding IsAccount after_account turns_in posts_in text_in
+  longer m h may is rest = record {
+    account = h ∷ rest.account;
+    is = (may, rest.is);
+    leaves = rest.leaves;
+    are_of = before h rest.account is rest.are_of;
+    turns_are = rw rest.turns_are;
+    posts_are = rw rest.posts_are;
+    text_is = rw rest.text_is;
+  }
+
   -- ---- the end
 
-  pub ended : (s : Serving Waiting) {left : List Record} → left ≡ s.site.book.records
-      → s.site.book.owner ≡ owner → AreRecords s.site.book.records
-      → Rest (Serves (on_disk s)) left [] [] []
+  down : (left : List Record) → Rest (Down left) left [] [] []
   unfolding IsAccount after_account turns_in posts_in text_in
-  ended s {left} same whose are = record {
-    account = Ends its.n left ∷ [];
-    is = (
-      λ f is come. (
-        on_disk s,
-        (its.has, is),
-        rw (same, whose)
-            (recovers owner s.site.book.records its.n refl its.is_membership are),
-      ),
-      tt,
-    );
+  down left = record {
+    account = [];
+    is = tt;
     leaves = refl;
-    are_of = before (Ends its.n left) [] (refl, tt) (λ k among. absurd (has_none among));
+    are_of = λ h among. absurd (has_none among);
     turns_are = refl;
     posts_are = refl;
     text_is = refl;
   }
+
+  pub ended : (s : Serving Waiting) {left : List Record} → left ≡ s.site.book.records
+      → s.site.book.owner ≡ owner → AreRecords s.site.book.records
+      → Rest (Serves (on_disk s)) left [] [] []
+  ended s {left} same whose are =
+      longer (Serves (on_disk s)) (Ends its.n left)
+      (λ f is come. (
+        on_disk s,
+        (its.has, is),
+        rw (same, whose)
+            (recovers owner s.site.book.records its.n refl its.is_membership are),
+      )) (refl, tt) (down left)
 
   -- its idle turns are counted anew
   pub renews : (s : Serving Waiting) {left : List Record} {turns : List Turned}
       {posts : List Post} {text : List ℕ}
       → Rest (Serves (on_disk (begins s.site s.volatile))) left turns posts text
       → Rest (Serves (on_disk s)) left turns posts text
-  unfolding IsAccount after_account turns_in posts_in text_in
-  renews s rest = record {
-    account = Renews its.n ∷ rest.account;
-    is = (λ f is come. (on_disk s, (its.has, is)), rest.is);
-    leaves = rest.leaves;
-    are_of = before (Renews its.n) rest.account (refl, tt) rest.are_of;
-    turns_are = rest.turns_are;
-    posts_are = rest.posts_are;
-    text_is = rest.text_is;
-  }
+  renews s rest =
+      longer (Serves (on_disk s)) (Renews its.n) (λ f is come. (on_disk s, (its.has, is)))
+      (refl, tt) rest
 
   -- ---- a turn
 
@@ -139,26 +153,14 @@ module _ (its : Service) where
         → Rest (Serves (on_disk next)) left turns posts text
         → Rest (Serves (on_disk old)) left (turn ∷ turns) (take handed turn.done.posts ++ posts)
         (take written (text_of turn) ++ text)
-    unfolding IsAccount after_account turns_in posts_in text_in
-    one_turn rest = record {
-      account = Turns its.n step handed written ∷ rest.account;
-      is = (
-        λ f is come. (
+    one_turn rest =
+        longer (Serves (on_disk old)) (Turns its.n step handed written)
+        (λ f is come. (
           on_disk old,
           (its.has, is),
           record { may_come = come; comes = folders.2 },
           open_next,
-        ),
-        rest.is,
-      );
-      leaves = rest.leaves;
-      are_of =
-          before (Turns its.n step handed written) rest.account (refl, (refl, folders.1))
-          rest.are_of;
-      turns_are = rw rest.turns_are;
-      posts_are = rw rest.posts_are;
-      text_is = rw rest.text_is;
-    }
+        )) (refl, (refl, folders.1)) rest
 
   -- ---- the turns of a batch, of which so much is told
 
