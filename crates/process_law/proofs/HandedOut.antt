@@ -39,8 +39,7 @@ by_batches : (batches : List Batch)
     → handed_by (flat_map moves_of batches) ≡ posts_of (turns_of batches)
 by_batches [] = refl
 by_batches (batch ∷ batches) =
-    rw (handed_by_both (moves_of batch) (flat_map moves_of batches),
-    by_batch batch (posts_of batch.turns), by_batches batches)
+    rw (handed_by_both (moves_of batch), by_batch batch (posts_of batch.turns), by_batches batches)
     (sym (flat_map-append (λ (turn : Turned). turn.done.posts) batch.turns (turns_of batches)))
 
 text_of_batches : (batches : List Batch)
@@ -75,7 +74,7 @@ module _ {C : Type 0} {device : C → Device} {rule : Rule Waiting} {owner : Own
       let whole : List Batch = whole_batches come in
       record {
         handed =
-            rw (handed_by_both (flat_map moves_of whole) (last_moves come.last), by_batches whole,
-            at_last come.last come.is_last, posts, append_assoc);
+            let first = by_batches whole in let last = at_last come.last come.is_last in
+            rw (handed_by_both (flat_map moves_of whole), first, last, posts, append_assoc);
         written = rw (text_of_batches whole, text_at_last come.last, text, append_assoc);
       }

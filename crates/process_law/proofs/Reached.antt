@@ -49,10 +49,6 @@ pub first_handed : (count : ℕ) (posts : List Post)
 unfolding all_handed
 first_handed count posts = take-map Handed count posts
 
-none_of_none : all_handed [] ≡ []
-unfolding all_handed
-none_of_none = refl
-
 -- ---- what is seen from outside
 
 -- of these batches, and of others after them
@@ -191,7 +187,7 @@ module _ {C : Type 0} {device : C → Device} (counts_now : CountsNow device)
           let fault = Err commits.Memory in
           reach mid lead (Unsynced b [] [])
           (end, fault, made, (0, 0, refl, refl), since mid b fault made)
-          (rw (none_of_none, append-nil (moves_in b)) shows)
+          (rw (← first_handed 0 [], append-nil (moves_in b)) shows)
       ends_by faults.Memory
           (fewer, inr (inr (inr (count, (mid, lead, b, is_within, made, shows))))) =
           reach mid lead (Synced b count 0) (end, made, may) shows

@@ -27,9 +27,9 @@ use Rattle.udp_site.proofs.WaitingTurns.{followed, followed_by}
 use Rattle.serving_law.specs.Disks.{Disk, device}
 use Rattle.serving_law.specs.Federations.{Member, Serves, Down, Step, Happening, Turns, Ends}
 use Rattle.serving_law.specs.Federations.{Renews}
+use Rattle.serving_law.specs.Reports.{showing_of, step_of}
 use Rattle.serving_law.specs.Rules.{owner_of}
 use Rattle.serving_law.proofs.Happenings.{HasFolders, with_folders}
-use Rattle.serving_law.specs.Reports.{showing_of, step_of}
 use Rattle.register_law.specs.Overlaps.{IsAccount, MayHappenTo, own_after, handed_out}
 use Rattle.batch_law.specs.OnDisks.{on_disk}
 use Rattle.batch_law.proofs.DiskTurns.{turn_on}
@@ -55,9 +55,11 @@ module _ (its : Service) where
   abbrev pub owner : Owner
   owner = owner_of device its.members its.n
 
+  abbrev pub IsIts : Happening Disk → Type 0
+  IsIts h = IsOf its.members its.n its.addresses its.gives h
+
   abbrev pub AreIts : List (Happening Disk) → Type 0
-  AreIts account =
-      (h : Happening Disk) → Has h account → IsOf its.members its.n its.addresses its.gives h
+  AreIts account = (h : Happening Disk) → Has h account → IsIts h
 
   pub record Rest (m : Member Disk) (left : List Record) (turns : List Turned) (posts : List Post)
       (text : List ℕ) : Type 0 where
@@ -70,13 +72,12 @@ module _ (its : Service) where
     pub text_is : text_in account ≡ text
 
   -- one happening more, before others
-  pub before : (h : Happening Disk) (account : List (Happening Disk))
-      → IsOf its.members its.n its.addresses its.gives h → AreIts account → AreIts (h ∷ account)
+  pub before : (h : Happening Disk) (account : List (Happening Disk)) → IsIts h → AreIts account
+      → AreIts (h ∷ account)
   before h account is are k (here e) = rw (← e) is
   before h account is are k (there among) = are k among
 
-  longer : (m : Member Disk) (h : Happening Disk) → MayHappenTo device its.members m h
-      → IsOf its.members its.n its.addresses its.gives h
+  longer : (m : Member Disk) (h : Happening Disk) → MayHappenTo device its.members m h → IsIts h
       → {left : List Record} {turns : List Turned} {posts : List Post} {text : List ℕ}
       → Rest (own_after m h) left turns posts text
       → Rest m left (turn_shown (step_of h) ++ turns) (handed_out h ++ posts)
@@ -114,8 +115,7 @@ module _ (its : Service) where
       (λ f is come. (
         on_disk s,
         (its.has, is),
-        rw (same, whose)
-            (recovers owner s.site.book.records its.n refl its.is_membership are),
+        rw (same, whose) (recovers owner _ its.n refl its.is_membership are),
       )) (refl, tt) (down left)
 
   -- its idle turns are counted anew
@@ -164,11 +164,6 @@ module _ (its : Service) where
 
   -- ---- the turns of a batch, of which so much is told
 
-  both_told : {X : Type 0} (count : ℕ) (first more rest : List X)
-      → take count (first ++ more) ++ rest
-      ≡ take count first ++ (take (count - length first) more ++ rest)
-  both_told count first more rest = rw (take_both count first more, append_assoc)
-
   pub turns_told : (those : List Turned) (old next : Serving Waiting) (handed written : ℕ)
       → Follow rule old those next → old.site.book.owner ≡ owner
       → old.site.book.needs_opening ≡ false → AreRecords next.site.book.records
@@ -177,9 +172,8 @@ module _ (its : Service) where
       → Rest (Serves (on_disk old)) left (those ++ turns) (take handed (posts_of those) ++ posts)
       (take written (text_of_all those) ++ text)
   turns_told [] old next handed written follow whose opened are rest =
-      rw (take-nil, take-nil, follow) rest
-  turns_told (turn ∷ those) old next handed written (mid, came, follow) whose opened are
-      {posts = posts} {text = text} rest =
+      simp take-nil (rw follow rest)
+  turns_told (turn ∷ those) old next handed written (mid, came, follow) whose opened are rest =
       let first : Grows old.site.book mid.site.book =
       followed_by its.addresses its.gives old old mid [] turn opened refl came in
       let open_mid : mid.site.book.needs_opening ≡ false = first.opened ∙ opened in
@@ -187,11 +181,11 @@ module _ (its : Service) where
       followed its.addresses its.gives mid next those open_mid follow in
       let are_mid : AreRecords mid.site.book.records =
       first_are mid.site.book.records later.more (rw later.records at are) in
-      rw (both_told handed turn.done.posts (posts_of those) posts,
-      both_told written (text_of turn) (text_of_all those) text)
+      rw (take_both handed turn.done.posts, append_assoc (take handed turn.done.posts))
+      (rw (take_both written (text_of turn), append_assoc (take written (text_of turn)))
       (one_turn old mid turn handed written came whose opened open_mid are_mid
       (turns_told those mid next (handed - length turn.done.posts)
-      (written - length (text_of turn)) follow (first.owner ∙ whose) open_mid are rest))
+      (written - length (text_of turn)) follow (first.owner ∙ whose) open_mid are rest)))
 
   -- all is told of these
   pub all_told : (those : List Turned) (old next : Serving Waiting) → Follow rule old those next
@@ -203,10 +197,9 @@ module _ (its : Service) where
       → Rest (Serves (on_disk old)) left ((those ++ more) ++ turns)
       (posts_of (those ++ more) ++ posts) (text_of_all (those ++ more) ++ text)
   all_told those old next follow whose opened are more turns posts text rest =
-      rw (append_assoc those more turns,
-      flat_map-append (λ (t : Turned). t.done.posts) those more,
-      append_assoc (posts_of those) (posts_of more) posts, flat_map-append text_of those more,
-      append_assoc (text_of_all those) (text_of_all more) text)
+      rw (append_assoc those more turns, flat_map-append (λ (t : Turned). t.done.posts) those more)
+      (rw (append_assoc (posts_of those), flat_map-append text_of those more)
+      (rw (append_assoc (text_of_all those))
       (rw (take-length (posts_of those), take-length (text_of_all those)) at
       (turns_told those old next (length (posts_of those)) (length (text_of_all those)) follow
-      whose opened are rest))
+      whose opened are rest))))
