@@ -81,9 +81,9 @@ module _ {C : Type 0} (device : C → Device) (only_now : OnlyNow device)
       let told = batches_told batches next end then lead in (
         told.0,
         λ more left turns posts text rest.
-        all_told its batch.turns start.serving next.serving made.follow stands.whose stands.opened
-        then.are (turns_of (batches ++ more)) turns posts text
-        (told.1 more left turns posts text rest),
+            all_told its batch.turns start.serving next.serving made.follow stands.whose
+            stands.opened then.are (turns_of (batches ++ more)) turns posts text
+            (told.1 more left turns posts text rest),
       )
 
   calls_told : (calls : List (List Batch)) (start begun : Batching C) → Stood start
@@ -95,9 +95,9 @@ module _ {C : Type 0} (device : C → Device) (only_now : OnlyNow device)
       let later = calls_told calls (goes_on_from mid) begun first.0 went_on in (
         later.0,
         λ more left turns posts text rest.
-        rw (append_assoc batches (all_batches calls) more)
-        (first.1 (all_batches calls ++ more) left turns posts text
-        (renews its mid.serving (later.1 more left turns posts text rest))),
+            rw (append_assoc batches (all_batches calls) more)
+            (first.1 (all_batches calls ++ more) left turns posts text
+            (renews its mid.serving (later.1 more left turns posts text rest))),
       )
 
   -- ---- the last
@@ -137,8 +137,9 @@ module _ {C : Type 0} (device : C → Device) (only_now : OnlyNow device)
 
     first_left : left ≡ old ++ take (count - length old) grows.more
     first_left =
-        cc (crashed.1, take-add mid.held.synced crashed.0 new.records, grows.records,
-        take_both count old grows.more, take_all count old enough)
+        let all = take-add mid.held.synced crashed.0 new.records in
+        let both = take_both count old grows.more in
+        cc (crashed.1, all, grows.records, both, take_all count old enough)
 
     unsynced : (refused : List Post) (said : List ℕ)
         → AtLast mid left (Unsynced batch refused said)
@@ -157,7 +158,7 @@ module _ {C : Type 0} (device : C → Device) (only_now : OnlyNow device)
           shown = those;
           are_last = (part.1, part.2);
           rest =
-              rw append-nil at
+              simp append-nil at
               (turns_told its those mid.serving stopped 0 0 part.4 stands.whose stands.opened are
               (ended its stopped same (then.owner ∙ stands.whose) are));
         }
@@ -179,8 +180,7 @@ module _ {C : Type 0} (device : C → Device) (only_now : OnlyNow device)
         shown = batch.turns;
         are_last = refl;
         rest =
-            rw (append-nil batch.turns, append-nil (take handed (posts_of batch.turns)),
-            append-nil (take written (text_of_all batch.turns))) at
+            simp append-nil at
             (turns_told its batch.turns mid.serving next.serving handed written made.follow
             stands.whose stands.opened then.are
             (ended its next.serving (same_left device tells (owner its) only_now then may)
@@ -250,16 +250,13 @@ module _ {C : Type 0} (device : C → Device) (only_now : OnlyNow device)
       opens,
     )
 
-    abbrev account : List (Happening Disk)
-    account = Starts its.n disk site ∷ rest.account
-
     has_account : (account : List (Happening Disk))
         × IsAccountOf its.members its.n its.addresses its.gives records left (whole_batches come)
         come.last account
         × TellsAll (moves_since come) (text_since come) come.last account
     unfolding IsAccount after_account turns_in posts_in text_in
     has_account = (
-      account,
+      Starts its.n disk site ∷ rest.account,
       record {
         disk = disk;
         site = site;
@@ -274,7 +271,7 @@ module _ {C : Type 0} (device : C → Device) (only_now : OnlyNow device)
         posts = rest.posts_are;
         text = rest.text_is;
       },
-      tells_all come account rest.posts_are rest.text_is,
+      tells_all come _ rest.posts_are rest.text_is,
     )
 
 pub accounts_go_on : (members : Membership) → AccountsGoOn members
