@@ -52,11 +52,6 @@ module _ {C : Type 0} (device : C → Device) (only_now : OnlyNow device)
   abbrev Stood : Batching C → Type 0
   Stood b = Stands device tells (owner its) b.serving.site.book b.held
 
-  next_stands : {old next : Batching C} {batch : Batch} → Stood old
-      → Batches device (rule its) old batch (Ok tt) next → Stood next
-  next_stands {old} {next} {batch} stands made =
-      stands_next device tells (owner its) its.addresses its.gives old next batch stands made
-
   -- ---- whole batches
 
   -- what is told of these batches, and then of others
@@ -77,7 +72,8 @@ module _ {C : Type 0} (device : C → Device) (only_now : OnlyNow device)
   batches_told [] start end stands lead =
       (rw (← lead) stands, λ more left turns posts text rest. rw lead rest)
   batches_told (batch ∷ batches) start end stands (next, made, lead) =
-      let then : Stood next = next_stands stands made in
+      let then : Stood next =
+      stands_next device tells (owner its) its.addresses its.gives stands made in
       let told = batches_told batches next end then lead in (
         told.0,
         λ more left turns posts text rest.
@@ -175,7 +171,8 @@ module _ {C : Type 0} (device : C → Device) (only_now : OnlyNow device)
   at_last mid left (Unsynced batch refused said) stands (next, answer, made, refusal, may) =
       unsynced mid next batch answer left stands made may refused said
   at_last mid left (Synced batch handed written) stands (next, made, may) =
-      let then : Stood next = next_stands stands made in
+      let then : Stood next =
+      stands_next device tells (owner its) its.addresses its.gives stands made in
       record {
         shown = batch.turns;
         are_last = refl;

@@ -5,13 +5,12 @@ use Rattle.records.specs.declared.record.Record.{Record}
 use Rattle.records.specs.Journals.{DecodesTo}
 use Rattle.records.specs.Records.{AreRecords}
 use Rattle.records.proofs.Texts.{both_records}
-use Rattle.records.specs.Starts.{Start, Old, New, Carried, IsStart, records_of}
+use Rattle.records.specs.Starts.{Start, Carried, IsStart, records_of}
 
 all_of : (start : Start) (records : List Record) → IsStart start → AreRecords records
     → AreRecords (records_of start records)
-all_of Old records is are = are
-all_of (New weights) records is are = are
 all_of (Carried first weights) records is are = both_records first records is.0 are
+all_of _ records is are = are
 
 pub decoded : (owner : Owner) (bytes : List ℕ) (records : List Record)
     → DecodesTo owner bytes (Ok records) → AreRecords records

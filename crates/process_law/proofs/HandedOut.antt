@@ -6,7 +6,7 @@ use Rattle.cell_device.specs.Devices.{Device}
 use Rattle.records.specs.declared.owner.Owner.{Owner}
 use Rattle.records.specs.declared.record.Record.{Record}
 use Rattle.book.specs.declared.waiting.Waiting.{Waiting}
-use Rattle.udp_site.specs.Traffic.{Post, Move, Took, Failed, Handed, all_handed}
+use Rattle.udp_site.specs.Traffic.{Post, Move, Handed, all_handed}
 use Rattle.udp_site.specs.Served.{Rule, Outside, Turned, text_of}
 use Rattle.udp_site.specs.BatchTurns.{Batch, moves_in, moves_of, posts_of, text_of_all, turns_of}
 use Rattle.serving_law.specs.Disks.{Disk}
@@ -21,8 +21,7 @@ use Rattle.process_law.proofs.Reached.{none_handed, first_handed}
 handed_by_both : (m n : List Move) → handed_by (m ++ n) ≡ handed_by m ++ handed_by n
 handed_by_both [] n = refl
 handed_by_both (Handed post ∷ m) n = rw (handed_by_both m n)
-handed_by_both (Took taken ∷ m) n = handed_by_both m n
-handed_by_both (Failed ∷ m) n = handed_by_both m n
+handed_by_both (_ ∷ m) n = handed_by_both m n
 
 all_are : (posts : List Post) → handed_by (all_handed posts) ≡ posts
 unfolding all_handed
@@ -51,8 +50,7 @@ text_of_batches (batch ∷ batches) =
 
 text_at_last : (last : Last) → last_text last ≡ text_last last ++ text_refused last
 text_at_last (Synced batch handed written) = rw append-nil
-text_at_last (Quiet moves) = refl
-text_at_last (Unsynced batch refused said) = refl
+text_at_last _ = refl
 
 module _ {C : Type 0} {device : C → Device} {rule : Rule Waiting} {owner : Owner} {cell : C}
     {before now : Outside} {left : List Record}

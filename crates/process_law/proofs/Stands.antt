@@ -75,10 +75,10 @@ module _ {C : Type 0} (device : C → Device) (tells : (c : C) → IsSome (devic
 
   -- after a batch that is synced
   pub stands_next : (addresses : List ℕ) (gives : Option (List ℕ → Result TreeFacts TreeFault))
-      (old next : Batching C) (batch : Batch) → Stands old.serving.site.book old.held
+      {old next : Batching C} {batch : Batch} → Stands old.serving.site.book old.held
       → Batches device (turn_of no_cell addresses gives) old batch (Ok tt) next
       → Stands next.serving.site.book next.held
-  stands_next addresses gives old next batch stands batches =
+  stands_next addresses gives {old} {next} {batch} stands batches =
       let book : OpenBook Waiting = next.serving.site.book in
       let grows : Grows old.serving.site.book book =
       followed addresses gives old.serving next.serving batch.turns stands.opened
